@@ -1,0 +1,5 @@
+pub mod Chains
+pub mod Lists
+pub mod Orders
+pub mod Refusals
+pub mod Seats

@@ -1,0 +1,4 @@
+//! Lines: entries in a total order, and what every line of them does.
+
+pub mod entry;
+pub mod lines;
