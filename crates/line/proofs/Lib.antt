@@ -2,4 +2,5 @@ pub mod Chains
 pub mod Lists
 pub mod Orders
 pub mod Refusals
+pub mod Rows
 pub mod Seats

@@ -1,0 +1,4 @@
+//! A line that keeps its row in order.
+
+pub mod ordered_row;
+mod shifts;
