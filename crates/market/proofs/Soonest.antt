@@ -117,7 +117,7 @@ sooner-even a b h k e =
     let c = lower-even (classNumber (a .standing .class)) (classNumber (b .standing .class)) _ _ h k in
     let same = same-class (a .standing .class) (b .standing .class) (c .0) in
     let back : earlier (a .standing .class) (b .standing .place) (a .standing .place) (ltb (b .number) (a .number)) ≡ false =
-          ap (λ d. earlier d (b .standing .place) (a .standing .place) (ltb (b .number) (a .number))) same ∙ c .2 in
+    ap (λ d. earlier d (b .standing .place) (a .standing .place) (ltb (b .number) (a .number))) same ∙ c .2 in
     let p = earlier-even (a .standing .class) (a .standing .place) (b .standing .place) _ _ (c .1) back in
     same-rank a b e same (p .0) (number-even (a .number) (b .number) (p .1) (p .2))
 
@@ -126,8 +126,8 @@ unfolding sooner
 sooner-on a b c h k =
     lower-chain (classNumber (a .standing .class)) (classNumber (b .standing .class)) (classNumber (c .standing .class)) _ _ _
     (λ e f x y.
-      earlier-on (a .standing .class) (a .standing .place) (b .standing .place) (c .standing .place)
-      (number-on (a .number) (b .number) (c .number)) x
-      (ap (λ d. earlier d (b .standing .place) (c .standing .place) (ltb (b .number) (c .number)))
-        (same-class (a .standing .class) (b .standing .class) e) ∙ y))
+    earlier-on (a .standing .class) (a .standing .place) (b .standing .place) (c .standing .place)
+    (number-on (a .number) (b .number) (c .number)) x
+    (ap (λ d. earlier d (b .standing .place) (c .standing .place) (ltb (b .number) (c .number)))
+    (same-class (a .standing .class) (b .standing .class) e) ∙ y))
     h k

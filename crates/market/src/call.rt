@@ -1,5 +1,6 @@
 //! What traders and the host ask of a book.
-use crate::order::{OrderType, Side};
+use crate::order::OrderType;
+use crate::order::Side;
 
 /// A new order.
 #[derive(Clone, Copy)]

@@ -4,7 +4,6 @@ pub mod answer;
 pub mod call;
 pub mod making;
 pub mod order;
-
 pub mod rank;
 pub mod record;
 pub mod refusal;

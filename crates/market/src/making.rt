@@ -24,7 +24,12 @@ impl Settings {
         if !lawful_period(timed) || !lawful_period(rolling) || !lawful_period(fbs) {
             return Err(Refusal::Settings);
         }
-        Ok(Settings { tenor, timed, rolling, fbs })
+        Ok(Settings {
+            tenor,
+            timed,
+            rolling,
+            fbs,
+        })
     }
 
     /// The size of which all sizes are multiples.

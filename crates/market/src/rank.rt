@@ -90,7 +90,8 @@ impl Rank {
         if class != against {
             return class < against;
         }
-        mine.class.is_earlier(mine.place, theirs.place, self.number < other.number)
+        mine.class
+            .is_earlier(mine.place, theirs.place, self.number < other.number)
     }
 }
 

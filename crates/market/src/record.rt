@@ -27,15 +27,35 @@ pub struct Fill {
 #[derive(Clone, Copy)]
 pub enum Record {
     /// Nothing is left to do by the time that was wished.
-    Quiet { time: u64 },
-    Fill { time: u64, fill: Fill },
+    Quiet {
+        time: u64,
+    },
+    Fill {
+        time: u64,
+        fill: Fill,
+    },
     /// A session began, at the price of the passive order.
-    Session { time: u64, price: i32, passive: u32 },
+    Session {
+        time: u64,
+        price: i32,
+        passive: u32,
+    },
     /// The session's Timed phase ended, and its Rolling phase began.
-    Rolling { time: u64 },
+    Rolling {
+        time: u64,
+    },
     /// The session ended, and the FBS Period began.
-    Fbs { time: u64 },
+    Fbs {
+        time: u64,
+    },
     /// The FBS Period ended.
-    Open { time: u64 },
-    Removal { time: u64, number: u32, displayed: u32, cause: Cause },
+    Open {
+        time: u64,
+    },
+    Removal {
+        time: u64,
+        number: u32,
+        displayed: u32,
+        cause: Cause,
+    },
 }
