@@ -1,0 +1,4 @@
+pub mod Making
+pub mod Ranks
+pub mod Refusals
+pub mod Tenors

@@ -1,0 +1,12 @@
+pub mod Base
+pub mod Board
+pub mod Calls
+pub mod Draws
+pub mod Entitlement
+pub mod Examples
+pub mod Fills
+pub mod Opened
+pub mod Privileges
+pub mod Refusing
+pub mod Standings
+pub mod Summaries

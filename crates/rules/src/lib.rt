@@ -1,0 +1,9 @@
+//! The rules of the book, as definitions in specs/, and the laws above them.
+ghost use Rattle.rules.specs.Examples.{Examples};
+
+/// The worked examples hold of the rules.
+pub fn examples_hold() -> bool
+    ensures { λ _. ⌜ Examples ⌝ }
+{
+    true
+}
