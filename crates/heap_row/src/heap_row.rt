@@ -52,9 +52,8 @@ pub impl<'a, T: Entry> Line<T> for HeapRow<'a, T> as HeapRowLine {
     fn put(&mut self, entry: T) -> Result<(), LineFault> {
         let held = self.held();
         let len = held.len();
-        match heap::find(held, &entry) {
-            Some(_) => return Err(LineFault::Held),
-            None => {}
+        if heap::find(held, &entry).is_some() {
+            return Err(LineFault::Held);
         }
         if len == self.row.len() {
             return Err(LineFault::Full);
