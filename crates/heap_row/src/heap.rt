@@ -1,8 +1,8 @@
 //! A slice as a heap: none of its entries is ahead of its parent, and the parent of the entry at
 //! place `k` stands at `(k - 1) / 2`.
 ghost use mathlib.Core.Path.{_≡_};
-ghost use mathlib.Core.Bool.{Bool, true, false, not, _||_};
-ghost use Prim.Native.Nat.{ℕ, _-_, _/_, _<_, _≤_};
+ghost use mathlib.Core.Bool.{not, _||_};
+ghost use Prim.Native.Nat.{_-_, _/_, _<_};
 ghost use lib.ListN.{length, take, set, getD};
 ghost use Rattle.line.specs.Held.{withEntry, behind};
 ghost use Rattle.heap_row.specs.Heap.{Heap, Rising, Sinking, Lowest, Found, sorted, nearer};

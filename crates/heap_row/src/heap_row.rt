@@ -27,7 +27,7 @@ impl<'a, T: Entry> HeapRow<'a, T> {
         HeapRow { row, len: 0 }
     }
 
-    /// The entries as they lie in the row. `len` never passes its end, and here it need not be known.
+    /// The entries as they lie: the first `len` of the row, or the whole row if it is shorter.
     fn held(&self) -> &[T]
         ensures placed { λ r. ⌜ now r ≡ placed (now (self .entry)) ⌝ }
         ensures fits { λ r. ⌜ length (now r) ≤ roomOf (now (self .entry)) ⌝ }

@@ -1,6 +1,4 @@
 //! What every line does, tried on an ordered row and on a heap row.
-ghost use mathlib.Core.Path.{_≡_};
-ghost use mathlib.Core.Bool.{Bool};
 ghost use lib.Dec.{ltb};
 ghost use Rattle.line.specs.Order.{lower};
 use heap_row::heap_row::HeapRow;

@@ -1,5 +1,4 @@
 use mathlib.Core.Path.{_≡_, sym, ap, _∙_}
-use mathlib.Core.Bool.{false}
 use lib.ListN.{getD}
 use Rattle.std.proofs.shelf.Lists.{getD-read, take-all}
 use Rattle.line.specs.Order.{Order}
