@@ -2,19 +2,24 @@
 use mathlib.Core.Path.{_≡_, refl, sym, ap, _∙_}
 use mathlib.Core.Bool.{Bool, true, false, not, _||_}
 use mathlib.Core.List.{List, [], _∷_}
-use mathlib.Core.Logic.{_≢_}
-use Prim.Native.Nat.{ℕ, zero, suc, _+_, _-_, _/_, _<_, _≤_}
+use Prim.Native.Nat.{ℕ, zero, suc, _+_, _<_, _≤_}
 use native.Mathlib.Omega.{arith}
-use lib.ListN.{length, getD, set, take}
-use Rattle.std.proofs.shelf.Lists.{getD-set-other, length-set, take-set}
+use lib.ListN.{length, getD, take}
 use Rattle.std.proofs.shelf.Elements.{all-from-every}
-use Rattle.std.specs.declared.option.Option.the-variants.{Some}
+use Rattle.std.proofs.shelf.Tests.{both-ways}
+use Rattle.std.specs.Options.{isSome}
+use Rattle.std.specs.declared.option.Option.{Option}
+use Rattle.std.specs.declared.option.Option.the-variants.{Some, None}
 use Rattle.line.specs.Order.{Order}
 use Rattle.line.specs.Held.{holds, behind, firstOf, withEntry}
-use Rattle.heap_row.specs.Heap.{Heap, Rising, parent, sorted, nearer}
+use Rattle.heap_row.specs.Heap.{Heap, Found, parent, sorted, nearer}
 use Rattle.heap_row.proofs.Removes.{sorted-more}
 use Rattle.heap_row.proofs.Rises.{not-trans}
 use Rattle.heap_row.proofs.Sorts.{first-with, all-sorted, holds-with, holds-sorted, holds-at, behind-with}
+
+pub not-found : {X : Type 0} (ahead : X → X → Bool) (e : X) (xs : List X) (r : Option ℕ) → isSome r ≡ false → Found ahead e xs r → holds ahead e (sorted ahead xs) ≡ false
+not-found ahead e xs None n found = found
+not-found ahead e xs (Some i) n found = absurd (both-ways true n refl)
 
 module _ {X : Type 0} {ahead : X → X → Bool} (o : Order ahead) where
   -- no entry is ahead of the one at the top

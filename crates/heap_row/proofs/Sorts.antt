@@ -1,21 +1,20 @@
 -- What sorting keeps.
 use mathlib.Core.Path.{_≡_, refl, sym, ap, subst, _∙_}
-use mathlib.Core.Bool.{Bool, true, false, cond, not, _&&_, _||_}
+use mathlib.Core.Bool.{Bool, true, false, cond, not, _||_}
 use mathlib.Core.List.{List, [], _∷_, _++_}
-use mathlib.Core.Logic.{_⊎_, inl, inr, ⊎-elim, _≢_}
-use Prim.Native.Nat.{ℕ, zero, suc, _+_, _<_, _≤_}
+use mathlib.Core.Logic.{_⊎_, inl, inr, _≢_}
+use Prim.Native.Nat.{ℕ, zero, suc, _+_, _<_}
 use native.Mathlib.Omega.{arith}
-use lib.ListN.{length, getD, set, take}
+use lib.ListN.{length, getD, set}
 use Rattle.std.proofs.shelf.Tests.{cases-bool, both-ways, cond-true, cond-false, or-parts, not-false, not-true, or-right}
-use Rattle.std.proofs.shelf.Lists.{getD-set-other, getD-set-same, getD-take, length-take-le, length-set, take-more}
+use Rattle.std.proofs.shelf.Lists.{getD-set-other, length-set}
 use Rattle.std.specs.shelf.Lists.{All}
-use Rattle.std.specs.declared.option.Option.{Option}
-use Rattle.std.specs.declared.option.Option.the-variants.{Some, None}
+use Rattle.std.specs.declared.option.Option.the-variants.{Some}
 use Rattle.line.specs.Order.{Order}
 use Rattle.line.specs.Held.{holds, withEntry, without, behind, Ordered, firstOf}
 use Rattle.line.proofs.Lists.{not-back, length-with, holds-none}
 use Rattle.line.proofs.Chains.{Chain, all-with, chain-from-ordered, ordered-from-chain}
-use Rattle.heap_row.specs.Heap.{sorted, closer, nearer}
+use Rattle.heap_row.specs.Heap.{sorted, nearer}
 
 module _ {X : Type 0} {ahead : X → X → Bool} (o : Order ahead) where
   -- ---- two entries may be put in either order

@@ -6,7 +6,7 @@ use Prim.Native.Nat.{ℕ, _-_, _/_, _<_}
 use lib.ListN.{length, getD}
 use Rattle.std.specs.declared.option.Option.{Option}
 use Rattle.std.specs.declared.option.Option.the-variants.{Some, None}
-use Rattle.line.specs.Held.{withEntry}
+use Rattle.line.specs.Held.{holds, withEntry}
 
 -- the place above place k
 abbrev pub parent : ℕ → ℕ
@@ -17,6 +17,17 @@ module _ {X : Type 0} (ahead : X → X → Bool) where
   abbrev pub sorted : List X → List X
   sorted [] = []
   sorted (x ∷ xs) = withEntry ahead x (sorted xs)
+
+  -- e is held, at place i
+  pub record Stands (e : X) (xs : List X) (i : ℕ) : Type 0 where
+    pub within : i < length xs
+    pub held : holds ahead e (sorted xs) ≡ true
+    pub is : (d : X) → getD xs i d ≡ e
+
+  -- what a search for e answers: the place where it stands, or none if it is not held
+  abbrev pub Found : X → List X → Option ℕ → Type 0
+  Found e xs None = holds ahead e (sorted xs) ≡ false
+  Found e xs (Some i) = Stands e xs i
 
   -- x or what was found before, whichever is ahead
   abbrev pub closer : X → Option X → Option X

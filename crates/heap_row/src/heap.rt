@@ -1,12 +1,11 @@
 //! A slice as a heap: none of its entries is ahead of its parent, and the parent of the entry at
 //! place `k` stands at `(k - 1) / 2`.
 ghost use mathlib.Core.Path.{_≡_};
-ghost use mathlib.Core.Bool.{Bool, true, false, not, _||_};
-ghost use Prim.Native.Nat.{ℕ, _-_, _/_, _<_, _≤_};
+ghost use mathlib.Core.Bool.{not, _||_};
+ghost use Prim.Native.Nat.{_-_, _/_, _<_};
 ghost use lib.ListN.{length, take, set, getD};
-ghost use Rattle.std.specs.Options.{Cases};
-ghost use Rattle.line.specs.Held.{holds, withEntry, behind};
-ghost use Rattle.heap_row.specs.Heap.{Heap, Rising, Sinking, Lowest, sorted, nearer};
+ghost use Rattle.line.specs.Held.{withEntry, behind};
+ghost use Rattle.heap_row.specs.Heap.{Heap, Rising, Sinking, Lowest, Found, sorted, nearer};
 use line::entry::Entry;
 
 /// Writes `mover` at `at`, or as far above it as it belongs.
@@ -83,12 +82,12 @@ pub(crate) fn remove<T: Entry>(heap: &mut [T], at: usize)
 fn same<T: Entry>(a: &T, b: &T) -> bool
     ensures { λ r. ⌜ r ≡ not (T·Entry .ahead (now (a .entry)) (now (b .entry)) || T·Entry .ahead (now (b .entry)) (now (a .entry))) ⌝ }
 {
-    !a.is_ahead(b) && !b.is_ahead(a)
+    !(a.is_ahead(b) || b.is_ahead(a))
 }
 
 /// Where `sought` stands.
 pub(crate) fn find<T: Entry>(held: &[T], sought: &T) -> Option<usize>
-    ensures { λ r. ⌜ Cases r (holds (T·Entry .ahead) (now (sought .entry)) (sorted (T·Entry .ahead) (now (held .entry))) ≡ false) (λ i. (i < length (now (held .entry))) × (holds (T·Entry .ahead) (now (sought .entry)) (sorted (T·Entry .ahead) (now (held .entry))) ≡ true) × ((d : T) → getD (now (held .entry)) i d ≡ now (sought .entry))) ⌝ }
+    ensures { λ r. ⌜ Found (T·Entry .ahead) (now (sought .entry)) (now (held .entry)) r ⌝ }
 {
     for (i, x) in held.iter().enumerate() {
         if same(x, sought) {

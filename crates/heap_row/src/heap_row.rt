@@ -27,7 +27,7 @@ impl<'a, T: Entry> HeapRow<'a, T> {
         HeapRow { row, len: 0 }
     }
 
-    /// The entries as they lie in the row. `len` never passes its end, and here it need not be known.
+    /// The entries as they lie: the first `len` of the row, or the whole row if it is shorter.
     fn held(&self) -> &[T]
         ensures placed { λ r. ⌜ now r ≡ placed (now (self .entry)) ⌝ }
         ensures fits { λ r. ⌜ length (now r) ≤ roomOf (now (self .entry)) ⌝ }
@@ -52,9 +52,8 @@ pub impl<'a, T: Entry> Line<T> for HeapRow<'a, T> as HeapRowLine {
     fn put(&mut self, entry: T) -> Result<(), LineFault> {
         let held = self.held();
         let len = held.len();
-        match heap::find(held, &entry) {
-            Some(_) => return Err(LineFault::Held),
-            None => {}
+        if heap::find(held, &entry).is_some() {
+            return Err(LineFault::Held);
         }
         if len == self.row.len() {
             return Err(LineFault::Full);

@@ -28,7 +28,7 @@ impl<'a, T: Entry> OrderedRow<'a, T> {
         OrderedRow { row, len: 0 }
     }
 
-    /// The entries, in order. `len` never passes the row's end, and here it need not be known.
+    /// The entries, in order: the first `len` of the row, or the whole row if it is shorter.
     fn held(&self) -> &[T]
         ensures entries { λ r. ⌜ now r ≡ entriesOf (now (self .entry)) ⌝ }
         ensures fits { λ r. ⌜ length (now r) ≤ roomOf (now (self .entry)) ⌝ }

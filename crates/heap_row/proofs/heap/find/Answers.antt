@@ -1,5 +1,4 @@
 use mathlib.Core.Path.{_≡_, sym, ap, _∙_}
-use mathlib.Core.Bool.{false}
 use lib.ListN.{getD}
 use Rattle.std.proofs.shelf.Lists.{getD-read, take-all}
 use Rattle.line.specs.Order.{Order}
@@ -18,7 +17,7 @@ returns-then-same g c =
     let held = c .args .held .now in
     let inside = c .loop-i-test .taken in
     let is : (d : g .T .Denot) → getD held (c .loop-i .i) d ≡ c .args .sought .now = λ d. sym (getD-read held (c .loop-i .i) (c .index-held-i .result) inside (c .index-held-i .is) d) ∙ same-is (order g) (c .index-held-i .result) (c .args .sought .now) (sym (c .if-same .ensures tt)) in
-    (inside, holds-found (order g) (c .args .sought .now) held (c .loop-i .i) inside is, is)
+    record { within = inside; held = holds-found (order g) (c .args .sought .now) held (c .loop-i .i) inside is; is = is }
 
 pub loop-i-again : need.loop-i-again
 loop-i-again g c =

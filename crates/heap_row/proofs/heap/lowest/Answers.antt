@@ -1,8 +1,8 @@
-use mathlib.Core.Path.{_≡_, sym, subst}
-use mathlib.Core.Bool.{true, false}
+use mathlib.Core.Path.{sym}
 use Prim.Native.Nat.{_+_, _*_, _<_}
 use native.Mathlib.Omega.{arith}
-use lib.ListN.{length, getD}
+use borrow.Author.Needs.{needs}
+use lib.ListN.{length}
 use Rattle.std.proofs.shelf.Lists.{getD-read}
 use Rattle.line.specs.Order.{Order}
 use Rattle.heap_row.proofs.Sinks.{right-lowest, left-lowest}
@@ -12,6 +12,31 @@ use Rattle.heap_row.proofs.heap.lowest.Needs.{else-right-heap·by·then-right-
 
 order : (g : given.Over) → Order (g .T·Entry .ahead)
 order g = record { irreflexive = g .T·Entry·met .irreflexive; total = g .T·Entry·met .total; transitive = g .T·Entry·met .transitive }
+
+pub mul-left : need.mul-left
+mul-left g c = omega arith
+
+pub add-left : need.add-left
+add-left g c = omega arith
+
+pub add-right : need.add-right
+add-right g c = omega arith
+
+pub index-heap-right : need.index-heap-right
+index-heap-right g c = omega arith
+
+pub index-heap-left : need.index-heap-left
+index-heap-left g c = omega arith
+
+pub offset-heap-right : need.offset-heap-right
+offset-heap-right g c =
+    let inside : 2 * c .args .i + 1 + 1 < length (c .args .heap .now) = omega arith in
+    search needs
+
+pub offset-heap-left : need.offset-heap-left
+offset-heap-left g c =
+    let inside : 2 * c .args .i + 1 < length (c .args .heap .now) = omega arith in
+    search needs
 
 pub returns-then-is-ahead : need.returns-then-is-ahead
 returns-then-is-ahead g c =

@@ -1,7 +1,7 @@
 use mathlib.Core.Path.{_≡_, sym, ap, subst, _∙_}
 use mathlib.Core.Bool.{true, false}
 use native.Mathlib.Omega.{arith}
-use Prim.Native.Nat.{_-_, _/_, _<_, _≤_}
+use Prim.Native.Nat.{_-_, _/_, _<_}
 use lib.ListN.{length, take, getD, drop}
 use Rattle.std.proofs.shelf.Lists.{getD-default, getD-read, length-take-le}
 use Rattle.line.specs.Order.{Order}

@@ -1,4 +1,4 @@
-use mathlib.Core.Path.{sym, _∙_}
+use mathlib.Core.Path.{refl, sym, _∙_}
 use Prim.Native.Nat.{_<_}
 use native.Mathlib.Omega.{arith}
 use borrow.Author.Needs.{needs}
@@ -12,6 +12,21 @@ use Rattle.heap_row.proofs.heap.sift_up.Needs.{else-loop-i-test, then-loop-i-t
 
 order : (g : given.Over) → Order (g .T·Entry .ahead)
 order g = record { irreflexive = g .T·Entry·met .irreflexive; total = g .T·Entry·met .total; transitive = g .T·Entry·met .transitive }
+
+pub loop-i-holds : need.loop-i-holds
+loop-i-holds g c = (c .pre, (λ r. r), refl)
+
+pub index-heap-up : need.index-heap-up
+index-heap-up g c = omega arith
+
+pub index-heap-i : need.index-heap-i
+index-heap-i g c = omega arith
+
+pub loop-i-less : need.loop-i-less
+loop-i-less g c = omega arith
+
+pub index-heap-i-2 : need.index-heap-i-2
+index-heap-i-2 g c = omega arith
 
 pub offset-heap-i : need.offset-heap-i
 offset-heap-i g c =

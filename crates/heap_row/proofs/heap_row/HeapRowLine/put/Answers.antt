@@ -12,6 +12,7 @@ use Rattle.line.proofs.Refusals.{put-ok}
 use Rattle.line.proofs.Rows.{take-front}
 use Rattle.heap_row.specs.Heap.{Heap, sorted}
 use Rattle.heap_row.specs.Row.{placed, roomOf, entriesOf}
+use Rattle.heap_row.proofs.Finds.{not-found}
 use Rattle.heap_row.proofs.Parts.{length-part, part-whole, grow, sorted-grow}
 use Rattle.heap_row.proofs.heap_row.HeapRowLine.put.Needs as need
 
@@ -28,7 +29,7 @@ returns g c =
     let long = ap length held ∙ length-take (s .len) row in
     let inside : n < length row = omega arith in
     let front : take n row ≡ placed s = take-front n (s .len) row (omega arith) in
-    let free : holds ahead e (entriesOf ahead s) ≡ false = subst (λ t. holds ahead e (sorted ahead t) ≡ false) held (c .in-None .ensures tt) in
+    let free : holds ahead e (entriesOf ahead s) ≡ false = subst (λ t. holds ahead e (sorted ahead t) ≡ false) held (not-found ahead e (c .held-held .result .now) (c .find .result) (sym (c .if-is-some .ensures tt)) (c .find .ensures)) in
     let ys = c .sift-up .last .heap in
     let whole = part-whole row ys m (omega arith) (c .sift-up .kept .heap) (n + 1) (drop m row) (omega arith) in
     let more = ap (sorted ahead) whole ∙ c .sift-up .ensures .sorted ∙ sorted-grow ahead row n m e inside (omega arith) o ∙ ap (λ t. withEntry ahead e (sorted ahead t)) front in

@@ -10,7 +10,7 @@ use Rattle.line.specs.Held.{Ordered, holds, withEntry, without}
 use Rattle.line.proofs.Refusals.{take-ok}
 use Rattle.line.proofs.Rows.{take-front}
 use Rattle.heap_row.specs.Heap.{Heap, sorted}
-use Rattle.heap_row.specs.Row.{placed, roomOf, entriesOf, Sound}
+use Rattle.heap_row.specs.Row.{placed, entriesOf, Sound}
 use Rattle.heap_row.proofs.Parts.{length-part, part-less}
 use Rattle.heap_row.proofs.Sorts.{ordered-of, without-with}
 use Rattle.heap_row.proofs.heap_row.HeapRowLine.take.Needs as need
@@ -32,11 +32,11 @@ returns g c =
     let rest = part-less row ys (n - 0) (omega arith) (c .remove .kept .heap) n (drop (n - 0) row) (omega arith) in
     let ws = take (length (take (n - 0) row) - 1) ys in
     let whole : withEntry ahead e (sorted ahead ws) ≡ entriesOf ahead s =
-    ap (λ y. withEntry ahead y (sorted ahead ws)) (sym (found .2 e) ∙ ap (λ t. getD t at e) (held ∙ sym front)) ∙ c .remove .ensures .less e ∙ ap (sorted ahead) front in
+    ap (λ y. withEntry ahead y (sorted ahead ws)) (sym (found .is e) ∙ ap (λ t. getD t at e) (held ∙ sym front)) ∙ c .remove .ensures .less e ∙ ap (sorted ahead) front in
     let up = λ (sound : Sound ahead s). subst (Ordered ahead) (sym whole) (sound .1) in
     record {
       sound = λ sound. (subst (Heap ahead) (sym rest) (c .remove .ensures .heap (subst (Heap ahead) (sym front) (sound .0))), subst (λ t. Ordered ahead (sorted ahead t)) (sym rest) (ordered-of o e (sorted ahead ws) (up sound)));
-      answer = λ _. take-ok ahead e (roomOf s) (entriesOf ahead s) (subst (λ t. holds ahead e (sorted ahead t) ≡ true) held (found .1));
+      answer = λ _. take-ok ahead e (entriesOf ahead s) (subst (λ t. holds ahead e (sorted ahead t) ≡ true) held (found .held));
       entries = λ sound. ap (sorted ahead) rest ∙ sym (without-with o e (sorted ahead ws) (up sound)) ∙ ap (without ahead e) whole;
       room = length-part row ys (n - 0) (omega arith) (c .remove .kept .heap);
       kept = λ h. absurd (both-ways true h refl);

@@ -1,4 +1,4 @@
-use mathlib.Core.Path.{_≡_, sym, ap, subst, _∙_}
+use mathlib.Core.Path.{sym, ap, subst, _∙_}
 use Rattle.std.specs.declared.option.Option.the-variants.{Some}
 use Rattle.line.specs.Held.{Ordered, behind}
 use Rattle.ordered_row.specs.Row.{entriesOf}

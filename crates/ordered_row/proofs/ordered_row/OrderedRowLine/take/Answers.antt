@@ -1,4 +1,4 @@
-use mathlib.Core.Path.{_≡_, refl, sym, ap, subst, _∙_}
+use mathlib.Core.Path.{refl, sym, ap, subst, _∙_}
 use mathlib.Core.Bool.{true}
 use lib.ListN.{length}
 use Rattle.std.proofs.shelf.Lists.{length-take}
@@ -9,7 +9,7 @@ use Rattle.line.proofs.Chains.{ordered-without}
 use Rattle.line.proofs.Refusals.{take-ok}
 use Rattle.line.proofs.Rows.{take-front}
 use Rattle.ordered_row.specs.Found.{Stands}
-use Rattle.ordered_row.specs.Row.{entriesOf, roomOf}
+use Rattle.ordered_row.specs.Row.{entriesOf}
 use Rattle.ordered_row.proofs.ordered_row.OrderedRowLine.take.Needs as need
 
 pub returns : need.returns
@@ -22,7 +22,7 @@ returns g c =
     let less = λ (up : Ordered ahead (entriesOf s)). c .close-at .ensures ∙ ap (λ xs. removed xs (c .in-Ok .at)) front ∙ sym (found up .less) in
     record {
       sound = λ up. subst (Ordered ahead) (sym (less up)) (ordered-without ahead (c .args .entry) (entriesOf s) up);
-      answer = λ up. take-ok ahead (c .args .entry) (roomOf s) (entriesOf s) (found up .held);
+      answer = λ up. take-ok ahead (c .args .entry) (entriesOf s) (found up .held);
       entries = less;
       room = c .close-at .kept .row;
       kept = λ h. absurd (both-ways true h refl);
