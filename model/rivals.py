@@ -285,7 +285,8 @@ class OlderOrderCarriesPriority2(Book):
     def priority_2(self, trader, side):
         privilege = super().priority_2(trader, side)
         if privilege:
-            privilege.carrier = min((order.number for order in self.orders_of(trader, side)), default=0)
+            numbers = [order.number for order in self.orders_of(trader, side)]
+            privilege.carrier = min(numbers, default=0)
         return privilege
 
 
