@@ -191,13 +191,13 @@ class Generator:
 
     def displayed(self):
         lots = self.random.choice((1, 1, 1, 2, 2, 3, 4))
-        if self.chance(0.01):
+        if self.chance(0.004):
             lots = MAX_SIZE // self.lot
         return lots * self.lot
 
     def reserve(self):
         lots = self.random.choice((0, 0, 0, 1, 1, 2, 3, 6))
-        if self.chance(0.01):
+        if self.chance(0.004):
             lots = MAX_SIZE // self.lot
         return lots * self.lot
 
