@@ -6,9 +6,9 @@ An auditor watches each run. He sees the calls and the answers and nothing of th
 a reserve he only asks whether it is lawful. From this he works out by himself who was entitled and
 who stood ahead, by other means than the model: he keeps a log and reads it again. So the laws of
 docs/RULES.md are checked, and with them what follows from the rules: prices do not meet at quiet
-(outside Timed), no order is better than P in a session, nobody trades with himself, the first
-refusal that applies is the one answered, refused calls change nothing. The law on reserves is
-checked on pairs of runs.
+(outside Timed), no order is better than P in a session, the trigger is alone at P, prior orders are
+ahead, nobody trades with himself, the first refusal that applies is the one answered, refused calls
+change nothing. The law on reserves is checked on pairs of runs.
 """
 
 import random
@@ -386,6 +386,12 @@ class Auditor:
         if self.in_session():
             need(not any(order.side.better(order.price, self.p) for order in self.live.values()),
                  "an order is better than P in a session")
+        if self.phase is Phase.TIMED:
+            prior = self.prior()
+            others = [order for order in self.live.values()
+                      if order.side is self.passive_side and order.number not in prior]
+            need(all(self.ahead(self.live[number], order) for number in prior for order in others),
+                 "a prior order is not ahead")
 
 
 # ---- one run ---------------------------------------------------------------------------------

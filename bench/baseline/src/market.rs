@@ -24,7 +24,7 @@ impl Side {
         }
     }
 
-    /// A bid is better if higher, an offer if lower.
+    /// Higher is better for a bid, lower for an offer.
     pub fn better(self, price: i32, than: i32) -> bool {
         match self {
             Side::Bid => price > than,
