@@ -37,7 +37,7 @@ class Side(IntEnum):
         return Side(1 - self)
 
     def better(self, price, than):
-        """A bid is better if higher, an offer if lower."""
+        """Higher is better for a bid, lower for an offer."""
         return price > than if self is Side.BID else price < than
 
     def meets(self, price, opposite):

@@ -705,7 +705,7 @@ def faki_in_session(s):
 
 
 def tick_to_present(s):
-    """A tick to the present time is accepted and must be drawn; a quiet tape answers quiet."""
+    """A tick may name the present time, and needs drawing; a quiet tape answers quiet."""
     s.tick(100)
     s.tick(100)
     s.not_quiet()
@@ -773,7 +773,7 @@ def end_now(s):
 
 
 def own_price(s):
-    """Equal prices meet; in a session the price after re-pricing counts, else the one written."""
+    """Equal prices meet. A session counts the price that the order would get, else the one written."""
     s.offer(4, 101)
     s.bid(4, 101, refused=15)
     b = s.bid(4, 98)

@@ -22,7 +22,8 @@ CALLS = {
 }
 ANSWERS = {
     "quiet": (16, ("time",), ">Q"),
-    "fill": (17, ("time", "price", "size", "bid", "bid_displayed", "offer", "offer_displayed"), ">QiIIIII"),
+    "fill": (17, ("time", "price", "size", "bid", "bid_displayed", "offer", "offer_displayed"),
+             ">QiIIIII"),
     "session": (18, ("time", "price", "passive"), ">QiI"),
     "rolling": (19, ("time",), ">Q"),
     "fbs": (20, ("time",), ">Q"),

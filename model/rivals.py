@@ -242,7 +242,7 @@ class LowestNumberCarriesPriority1(Book):
 
 
 class EarnedWhenEntered(Book):
-    """The earned number is when the order joined the queue: its number."""
+    """Privileges rank by when their orders were entered."""
 
     def place_in_class(self, order, priority):
         if priority in (1, 2):
@@ -251,7 +251,7 @@ class EarnedWhenEntered(Book):
 
 
 class EarnedByStamp(Book):
-    """The earned number is when the order joined the queue: its stamp."""
+    """Privileges rank by the stamps of their orders."""
 
     def place_in_class(self, order, priority):
         return -order.stamp if priority == 2 else order.stamp
@@ -285,7 +285,8 @@ class OlderOrderCarriesPriority2(Book):
     def priority_2(self, trader, side):
         privilege = super().priority_2(trader, side)
         if privilege:
-            privilege.carrier = min((order.number for order in self.orders_of(trader, side)), default=0)
+            numbers = [order.number for order in self.orders_of(trader, side)]
+            privilege.carrier = min(numbers, default=0)
         return privilege
 
 
