@@ -5,8 +5,10 @@ pub mod Draws
 pub mod Entitlement
 pub mod Examples
 pub mod Fills
+pub mod Members
 pub mod Opened
 pub mod Privileges
 pub mod Refusing
+pub mod Sizes
 pub mod Standings
 pub mod Summaries
