@@ -15,15 +15,11 @@ use Rattle.rules.specs.Base.{each, write}
 use Rattle.rules.specs.Board.{numbered, ordered}
 use Rattle.rules.specs.Fills.{replacing, replace}
 use Rattle.rules.specs.Members.{In}
+use Rattle.rules.specs.Rising.{Ascends, Keeps}
 use Rattle.rules.proofs.Members.{find-in, in-found}
 use Rattle.rules.proofs.Tests.{some-inj}
 
 -- ---- ascending numbers
-
--- from k on, below m
-abbrev pub Ascends : ℕ → ℕ → List Order → Type 0
-Ascends k m [] = k ≤ m
-Ascends k m (o ∷ os) = (k ≤ o .number) × Ascends (suc (o .number)) m os
 
 pub ascends-from : (j k m : ℕ) (os : List Order) → j ≤ k → Ascends k m os → Ascends j m os
 ascends-from j k m [] h a = omega arith
@@ -86,11 +82,6 @@ module _ {A : Type 0} where
   write-there n v h m f = cond-false (eqb m n) v (h m) (ne-eqb m n f)
 
 -- ---- an order in another's place
-
--- what takes the place of order n, if anything, has its number
-abbrev pub Keeps : ℕ → Option Order → Type 0
-Keeps n None = Unit {0}
-Keeps n (Some o) = o .number ≡ n
 
 unlike : {n : ℕ} {o p : Order} → numbered n o ≡ false → p ≡ o → p .number ≡ n → ⊥
 unlike {n} {o} {p} q e f = both-ways (numbered n o) q (eq-eqb (o .number) n (sym (same-number e) ∙ f))

@@ -13,8 +13,9 @@ use Rattle.rules.specs.Base.{each, write}
 use Rattle.rules.specs.Board.{numbered}
 use Rattle.rules.specs.Fills.{replacing, replace}
 use Rattle.rules.specs.Members.{In}
+use Rattle.rules.specs.Rising.{Ascends, Keeps}
 use Rattle.rules.specs.Sizes.{sizes}
-use Rattle.rules.proofs.Rows.{Ascends, ascends-in, Keeps, write-here, write-there}
+use Rattle.rules.proofs.Rows.{ascends-in, write-here, write-there}
 
 pub sizes-fewer : (h : ℕ → ℕ) (n : ℕ) (os : List Order) → sizes h (replace n None os) ≤ sizes h os
 unfolding replace

@@ -9,6 +9,7 @@ pub mod Members
 pub mod Opened
 pub mod Privileges
 pub mod Refusing
+pub mod Rising
 pub mod Sizes
 pub mod Standings
 pub mod Summaries
