@@ -1,0 +1,9 @@
+pub mod Clocks
+pub mod Counts
+pub mod Drawn
+pub mod Fills
+pub mod Lots
+pub mod Orders
+pub mod Passes
+pub mod Sounds
+pub mod Tables
