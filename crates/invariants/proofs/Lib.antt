@@ -3,7 +3,11 @@ pub mod Counts
 pub mod Drawn
 pub mod Fills
 pub mod Lots
+pub mod Nearer
 pub mod Orders
 pub mod Passes
+pub mod Prompts
+pub mod Rests
 pub mod Sounds
+pub mod Steady
 pub mod Tables

@@ -1,1 +1,2 @@
+pub mod Prompt
 pub mod Sound
