@@ -1,12 +1,16 @@
+pub mod Beginnings
 pub mod Clocks
 pub mod Counts
+pub mod Crossings
 pub mod Drawn
 pub mod Fills
 pub mod Lots
 pub mod Nearer
+pub mod Orderlies
 pub mod Orders
 pub mod Passes
 pub mod Prompts
+pub mod Quiets
 pub mod Rests
 pub mod Sounds
 pub mod Steady

@@ -25,7 +25,7 @@ use Rattle.rules.specs.Members.{In}
 use Rattle.rules.proofs.Tests.{none≢some}
 use Rattle.rules.proofs.Members.{find-none}
 use Rattle.rules.proofs.Firsts.{first-none, first-in}
-use Rattle.rules.proofs.Reasons.{opens, Idle, Why, why}
+use Rattle.rules.proofs.Reasons.{opens, Unpaired, Idle, Why, why}
 
 -- no order of the side is entitled
 abbrev pub Nobody : Board → Side → Type 0
@@ -126,6 +126,19 @@ at-rest k b r =
     either (inr h) = inr (nobody b Offer h)
 
 -- ---- a book that has nothing to do rests
+
+pub none-first : (b : Board) (s : Side) → Nobody b s → firstEntitled b s ≡ None
+unfolding firstEntitled
+none-first b s n = go (firstEntitled b s) refl
+  where
+    go : (r : Option Order) → firstEntitled b s ≡ r → r ≡ None
+    go None e = refl
+    go (Some x) e =
+        let i = first-in (entitled b s) (ahead b) (b .orders) x e in absurd (both-ways (entitled b s x) (n x (i .0)) (i .1))
+
+pub no-pair : (b : Board) → Nobody b Bid ⊎ Nobody b Offer → Unpaired b
+no-pair b (inl n) = inl (none-first b Bid n)
+no-pair b (inr n) = inr (none-first b Offer n)
 
 pub rest-rests : (k : Opening) (b : Board) (d : Step) → Rest k b → Why k b d → isRest d ≡ true
 rest-rests k b (begins x y) q w = absurd (both-ways (opens b) (q .closed) (w .begun))

@@ -274,7 +274,7 @@ call-sound k S Draw q = draw-sound k S q
 
 -- ---- every run
 
-opened-sound : (k : Opening) → Sound k opened
+pub opened-sound : (k : Opening) → Sound k opened
 unfolding opened count
 opened-sound k =
     record {

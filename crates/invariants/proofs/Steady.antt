@@ -39,6 +39,7 @@ use Rattle.invariants.proofs.Sounds.{reply-keeps}
 
 pub record Steady (k : Opening) (S : State) : Type 0 where
   pub calm : S .board .clock .quiet ≡ true → Rest k (S .board)
+  pub arrived : S .board .clock .quiet ≡ true → S .board .clock .time ≡ S .board .clock .wished
   pub ready : (opens (S .board) ≡ false) ⊎ (S .board .clock .wished ≡ S .board .clock .time)
 
 -- ---- when a session can begin
@@ -126,30 +127,38 @@ busy k S d q w n h = both-ways (isRest d) n (rest-rests k (S .board) d (q .calm 
 
 step-steady : (k : Opening) (S : State) (d : Step) → Steady k S → Why k (S .board) d → (isRest d ≡ true → Rest k (S .board)) → Steady k (after S d)
 unfolding boardAfter begunBoard filledBoard removedBoard turnedBoard restedBoard
-step-steady k S (begins x y) q w r = record { calm = λ h. absurd (busy k S (begins x y) q w refl h); ready = inl refl }
+step-steady k S (begins x y) q w r = record {
+  calm = λ h. absurd (busy k S (begins x y) q w refl h);
+  arrived = λ h. absurd (busy k S (begins x y) q w refl h);
+  ready = inl refl;
+}
 step-steady k S (fills x y) q w r =
     let i = first-entitled (S .board) Bid x (w .0) in
     record {
       calm = λ h. absurd (busy k S (fills x y) q w refl h);
+      arrived = λ h. absurd (busy k S (fills x y) q w refl h);
       ready = inl (shut (S .board .phase) _ _ (entitled-shut (S .board .phase) (S .board) x (i .2)));
     }
 step-steady k S (removes o c) q w r =
     record {
       calm = λ h. absurd (busy k S (removes o c) q w refl h);
+      arrived = λ h. absurd (busy k S (removes o c) q w refl h);
       ready = inl (fewer-opens (S .board .phase) (S .board .counters .incoming) (o .number) (S .board .orders) (w .0 .closed));
     }
 step-steady k S (turns t) q w r =
     record {
       calm = λ h. absurd (busy k S (turns t) q w refl h);
+      arrived = λ h. absurd (busy k S (turns t) q w refl h);
       ready = inl (turned-shut (S .board .phase) (S .board .counters .incoming) (S .board .orders)
           (end-shut (S .board .phase) (k .settings) (S .board .session) t (w .ends)) (λ e. unmet (S .board) e (w .idle .unpaired)));
     }
 step-steady k S (expires o t) q w r =
     record {
       calm = λ h. absurd (busy k S (expires o t) q w refl h);
+      arrived = λ h. absurd (busy k S (expires o t) q w refl h);
       ready = inl (fewer-opens (S .board .phase) (S .board .counters .incoming) (o .number) (S .board .orders) (w .idle .closed));
     }
-step-steady k S rests q w r = record { calm = λ h. rest-stays k (S .board) (r refl); ready = inr refl }
+step-steady k S rests q w r = record { calm = λ h. rest-stays k (S .board) (r refl); arrived = λ h. refl; ready = inr refl }
 
 -- ---- every call
 
@@ -157,24 +166,24 @@ pub call-steady : (k : Opening) (S : State) (c : Call) → Steady k S → Steady
 unfolding step enteredBoard
 call-steady k S (Entry e) q =
     reply-keeps (Steady k) (entryRefusal k (S .board) e (isSize k (e .reserve))) _ S (enteredState S e) q
-    (λ f. record { calm = λ h. absurd (false≢true h); ready = inr refl })
+    (λ f. record { calm = λ h. absurd (false≢true h); arrived = λ h. absurd (false≢true h); ready = inr refl })
 call-steady k S (Change c) q =
     reply-keeps (Steady k) (changeRefusal k (S .board) c (isSize k (c .reserve))) _ S (changedState S c (owned (S .board) (c .trader) (c .number))) q
     (λ f. go (owned (S .board) (c .trader) (c .number)))
   where
     go : (r : Option Order) → Steady k (changedState S c r)
     go None = q
-    go (Some o) = unfold changedBoard in record { calm = λ h. absurd (false≢true h); ready = inr refl }
+    go (Some o) = unfold changedBoard in record { calm = λ h. absurd (false≢true h); arrived = λ h. absurd (false≢true h); ready = inr refl }
 call-steady k S (Cancel c) q =
     reply-keeps (Steady k) (cancelRefusal (S .board) (c .trader) (c .number)) _ S (cancelledState S (owned (S .board) (c .trader) (c .number))) q
     (λ f. go (owned (S .board) (c .trader) (c .number)))
   where
     go : (r : Option Order) → Steady k (cancelledState S r)
     go None = q
-    go (Some o) = unfold cancelledBoard in record { calm = λ h. absurd (false≢true h); ready = inr refl }
+    go (Some o) = unfold cancelledBoard in record { calm = λ h. absurd (false≢true h); arrived = λ h. absurd (false≢true h); ready = inr refl }
 call-steady k S (Tick t) q =
     reply-keeps (Steady k) (tickRefusal (S .board) t) _ S (record { board = tickedBoard (S .board) t; hidden = S .hidden }) q
-    (λ f. unfold tickedBoard in record { calm = λ h. absurd (false≢true h); ready = inl (q .calm (tick-passes (S .board) t f .quiet) .closed) })
+    (λ f. unfold tickedBoard in record { calm = λ h. absurd (false≢true h); arrived = λ h. absurd (false≢true h); ready = inl (q .calm (tick-passes (S .board) t f .quiet) .closed) })
 call-steady k S Draw q = unfold draw in step-steady k S (decided k (S .board)) q (why k (S .board)) (at-rest k (S .board))
 
 pub run-steady : (k : Opening) (S : State) (cs : List Call) → Steady k S → Steady k (run k S cs)
@@ -184,4 +193,4 @@ run-steady k S (c ∷ cs) q = run-steady k (step k S c .1) cs (call-steady k S c
 
 pub opened-steady : (k : Opening) → Steady k opened
 unfolding rules
-opened-steady k = record { calm = λ h. at-rest k (opened .board) refl; ready = inr refl }
+opened-steady k = record { calm = λ h. at-rest k (opened .board) refl; arrived = λ h. refl; ready = inr refl }

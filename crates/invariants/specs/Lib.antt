@@ -1,2 +1,3 @@
+pub mod Orderly
 pub mod Prompt
 pub mod Sound
