@@ -5,7 +5,6 @@ use mathlib.Core.List.{List}
 use mathlib.Core.Logic.{_⊎_, inl, inr}
 use Prim.Native.Nat.{ℕ}
 use native.Mathlib.Omega.{arith}
-use lib.Dec.{eqb}
 use lib.IntN.{ℤ}
 use lib.Signed.{_≤ℤ_}
 use Rattle.std.specs.declared.option.Option.{Option}
@@ -17,21 +16,21 @@ use Rattle.market.specs.declared.order.Side.the-variants.{Bid, Offer}
 use Rattle.market.specs.declared.order.Order.{Order}
 use Rattle.market.specs.declared.state.Phase.{Phase}
 use Rattle.market.specs.declared.state.Phase.the-variants.{Open, Timed, Rolling, Fbs}
-use Rattle.rules.specs.Base.{eqZ, isSome, each}
+use Rattle.rules.specs.Base.{eqZ, isSome}
 use Rattle.rules.specs.Board.{Board, on, same, other, better, meet, inSession, isOpen, numbered}
 use Rattle.rules.specs.Standings.{ahead}
-use Rattle.rules.specs.Entitlement.{priorLeft, passively, inTimed, entitledIn, entitled, firstEntitled}
+use Rattle.rules.specs.Entitlement.{priorLeft, entitled, firstEntitled}
 use Rattle.rules.specs.Draws.{incomingOf, started, begunBoard}
 use Rattle.rules.specs.Members.{In}
 use Rattle.rules.specs.Rising.{Ascends}
-use Rattle.rules.proofs.Tests.{none≢some, some-inj, eqZ-true, eq-eqZ, same-true, eq-same, same-false, ne-same}
+use Rattle.rules.proofs.Tests.{none≢some, some-inj, eqZ-true, eq-eqZ, same-true, eq-same, same-false}
 use Rattle.rules.proofs.Members.{in-any, in-each, each-in}
 use Rattle.rules.proofs.Firsts.{first-none, first-in, first-leads}
 use Rattle.rules.proofs.Rows.{ascends-unique, ordered-in}
 use Rattle.rules.proofs.Ranks.{ahead-ranked}
 use Rattle.rules.proofs.Prices.{better-self, better-asymmetric, Crossed, meet-crossed}
 use Rattle.rules.proofs.Reasons.{Begins}
-use Rattle.invariants.specs.Orderly.{Meets, Incoming, JustBegun, Orderly}
+use Rattle.invariants.specs.Orderly.{Meets, Incoming, Orderly}
 use Rattle.invariants.proofs.Rests.{refuted}
 use Rattle.invariants.proofs.Crossings.{meets-sides, still-meets, unbeaten}
 

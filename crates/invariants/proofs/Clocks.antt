@@ -1,26 +1,21 @@
 -- Time goes on, from moment to moment. Assumes nothing.
-use mathlib.Core.Path.{_≡_, refl, sym, _∙_, ap, subst}
+use mathlib.Core.Path.{_≡_, refl, sym, subst}
 use mathlib.Core.Bool.{Bool, true, false, cond, _&&_}
 use mathlib.Core.List.{List}
 use mathlib.Core.Logic.{_⊎_, inl, inr}
-use Prim.Native.Nat.{ℕ, _+_, _<_, _≤_, max}
+use Prim.Native.Nat.{ℕ, _<_, _≤_}
 use native.Mathlib.Nat.{le-trans, le-refl}
 use native.Mathlib.Omega.{arith}
 use lib.Dec.{leb, ltb}
 use Rattle.std.specs.declared.option.Option.{Option}
 use Rattle.std.specs.declared.option.Option.the-variants.{None, Some}
 use Rattle.std.proofs.shelf.Tests.{false≢true, cases-bool, leb-true, leb-false, ltb-true, ltb-false, le-ltb, lt-ltb, cases-lt}
-use Rattle.market.specs.declared.settings.Settings.{Settings}
 use Rattle.market.specs.declared.order.Order.{Order}
 use Rattle.market.specs.declared.order.Side.the-variants.{Bid, Offer}
-use Rattle.market.specs.declared.state.Phase.{Phase}
-use Rattle.market.specs.declared.state.Phase.the-variants.{Open, Timed, Rolling, Fbs}
-use Rattle.market.specs.declared.state.Clock.{Clock}
-use Rattle.market.specs.declared.state.Session.{Session}
 use Rattle.rules.specs.Base.{orElse, onlyIf, find, first}
-use Rattle.rules.specs.Board.{Opening, Board, meet, isOpen, inSession}
+use Rattle.rules.specs.Board.{Opening, Board, meet, isOpen}
 use Rattle.rules.specs.Entitlement.{firstEntitled}
-use Rattle.rules.specs.Draws.{Step, begins, fills, removes, turns, expires, rests, both, incomingOf, passiveFor, opening, pairing, goes, asRemoval, removing, phaseEnd, endsBy, dueBy, before, endsSooner, endingAt, withEnd, expiring, earlier, coming, decided, phaseAfter, begunAt, reaching}
+use Rattle.rules.specs.Draws.{Step, begins, fills, removes, turns, expires, rests, both, incomingOf, opening, pairing, goes, asRemoval, removing, phaseEnd, endsBy, dueBy, before, endsSooner, endingAt, withEnd, expiring, earlier, coming, decided}
 use Rattle.rules.specs.Members.{In}
 use Rattle.rules.proofs.Tests.{none≢some, some-inj}
 use Rattle.rules.proofs.Firsts.{Ranked, first-none, first-in, first-leads}

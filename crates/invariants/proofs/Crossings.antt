@@ -1,24 +1,22 @@
 -- Orders that meet, and prices that are no better than others. Assumes nothing.
-use mathlib.Core.Path.{_≡_, refl, sym, _∙_, ap, subst}
-use mathlib.Core.Bool.{Bool, true, false, cond}
+use mathlib.Core.Path.{_≡_, refl, sym, _∙_}
+use mathlib.Core.Bool.{Bool, true, false}
 use mathlib.Core.List.{List}
 use mathlib.Core.Logic.{_⊎_, inl, inr}
 use Prim.Native.Nat.{ℕ}
 use native.Mathlib.Omega.{arith}
 use lib.IntN.{ℤ}
-use lib.Signed.{ltZ, leZ, _≤ℤ_}
-use Rattle.std.specs.declared.option.Option.{Option}
-use Rattle.std.specs.declared.option.Option.the-variants.{None, Some}
+use lib.Signed.{ltZ}
 use Rattle.std.proofs.shelf.Signed.{ints}
 use Rattle.std.proofs.shelf.Tests.{both-ways, cond-true}
 use Rattle.market.specs.declared.order.Side.{Side}
 use Rattle.market.specs.declared.order.Side.the-variants.{Bid, Offer}
 use Rattle.market.specs.declared.order.Order.{Order}
 use Rattle.rules.specs.Board.{Board, other, better, meet}
-use Rattle.rules.specs.Standings.{aheadOn, ahead}
+use Rattle.rules.specs.Standings.{ahead}
 use Rattle.rules.specs.Refusing.{wouldMeet}
 use Rattle.rules.specs.Members.{In}
-use Rattle.rules.proofs.Prices.{meet-crossed, crossed-meet}
+use Rattle.rules.proofs.Prices.{crossed-meet}
 use Rattle.rules.proofs.Ranks.{ahead-on}
 use Rattle.invariants.specs.Orderly.{Meets}
 

@@ -1,31 +1,29 @@
 -- A draw keeps the book sound. Assumes nothing.
 use mathlib.Core.Path.{_≡_, refl, sym, _∙_, ap, subst}
-use mathlib.Core.Bool.{Bool, true, false, cond, _&&_}
+use mathlib.Core.Bool.{Bool, true, false, cond}
 use mathlib.Core.List.{List}
 use mathlib.Core.Logic.{_⊎_, inl, inr}
-use Prim.Native.Nat.{ℕ, _+_, _*_, _<_, _≤_, max}
+use Prim.Native.Nat.{ℕ, _+_, _≤_}
 use native.Mathlib.Nat.{le-trans, le-refl}
 use native.Mathlib.Omega.{arith}
 use lib.IntN.{ℤ}
 use Rattle.std.specs.declared.option.Option.{Option}
 use Rattle.std.specs.declared.option.Option.the-variants.{None, Some}
-use Rattle.std.proofs.shelf.Tests.{false≢true, and-parts}
+use Rattle.std.proofs.shelf.Tests.{and-parts}
 use Rattle.market.specs.declared.settings.Settings.{Settings}
 use Rattle.market.specs.declared.order.Side.{Side}
 use Rattle.market.specs.declared.order.Side.the-variants.{Bid, Offer}
 use Rattle.market.specs.declared.order.Order.{Order}
 use Rattle.market.specs.declared.state.Phase.{Phase}
 use Rattle.market.specs.declared.state.Phase.the-variants.{Open, Timed, Rolling, Fbs}
-use Rattle.market.specs.declared.state.Clock.{Clock}
 use Rattle.market.specs.declared.state.Counters.{Counters}
 use Rattle.market.specs.declared.state.Session.{Session}
 use Rattle.market.specs.declared.call.Call.the-variants.{Draw}
-use Rattle.rules.specs.Base.{each, first}
-use Rattle.rules.specs.Board.{Opening, Board, State, lot, on, same, other, numbered, inSession}
+use Rattle.rules.specs.Board.{Opening, Board, State, lot, on, other, numbered, inSession}
 use Rattle.rules.specs.Standings.{ahead}
 use Rattle.rules.specs.Entitlement.{entitled, entitledIn, firstEntitled}
 use Rattle.rules.specs.Fills.{Remainder, stays, restocks, leaves, stampAfter, replace, sizeOf, remainderOf, sessionAfter, filledBoard}
-use Rattle.rules.specs.Draws.{Step, begins, fills, removes, turns, expires, rests, incomingOf, phaseEnd, phaseAfter, reaching, begunAt, started, begunBoard, removedBoard, turnedBoard, restedBoard, decided, boardAfter, hiddenAfter, draw}
+use Rattle.rules.specs.Draws.{Step, begins, fills, removes, turns, expires, rests, phaseEnd, phaseAfter, begunAt, started, begunBoard, removedBoard, turnedBoard, restedBoard, decided, boardAfter, hiddenAfter, draw}
 use Rattle.rules.specs.Refusing.{isPrice}
 use Rattle.rules.specs.Calls.{step}
 use Rattle.rules.specs.Members.{In}
@@ -36,11 +34,11 @@ use Rattle.rules.proofs.Firsts.{first-in}
 use Rattle.rules.proofs.Rows.{ascends-unique, in-replace}
 use Rattle.rules.proofs.Sizes.{sizes-each, sizes-fewer}
 use Rattle.rules.proofs.Reasons.{Begins, Why, why}
-use Rattle.invariants.specs.Sound.{Lawful, Row, Counted, NotPast, Timely, Sound}
+use Rattle.invariants.specs.Sound.{Lawful, Counted, NotPast, Sound}
 use Rattle.invariants.proofs.Lots.{some-lot}
 use Rattle.invariants.proofs.Orders.{row-each, row-without}
-use Rattle.invariants.proofs.Fills.{Left, Taken, two}
-use Rattle.invariants.proofs.Clocks.{NonePast, not-past-yet, Onward, reached, onward}
+use Rattle.invariants.proofs.Fills.{Taken, two}
+use Rattle.invariants.proofs.Clocks.{Onward, reached, onward}
 use Rattle.invariants.proofs.Tables.{table-length, completions-length, adjust-length, privileges-length, turned-length}
 
 -- the state after a step

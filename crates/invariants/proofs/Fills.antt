@@ -1,14 +1,13 @@
 -- What a fill leaves of its two orders, and of the row of orders. Assumes nothing.
-use mathlib.Core.Path.{_≡_, refl, sym, _∙_, ap, subst}
+use mathlib.Core.Path.{_≡_, refl, sym, _∙_, subst}
 use mathlib.Core.Bool.{Bool, true, false, cond}
 use mathlib.Core.List.{List}
 use mathlib.Core.Logic.{_⊎_, inl, inr}
-use Prim.Native.Nat.{ℕ, _+_, _-_, _<_, _≤_, min}
+use Prim.Native.Nat.{ℕ, _+_, _-_, _≤_, min}
 use native.Mathlib.Nat.{le-trans}
 use native.Mathlib.Omega.{arith}
 use lib.Dec.{eqb}
 use lib.ListN.{length}
-use lib.IntN.{ℤ}
 use Rattle.std.specs.declared.option.Option.{Option}
 use Rattle.std.specs.declared.option.Option.the-variants.{None, Some}
 use Rattle.std.proofs.shelf.Tests.{eqb-false}
@@ -23,7 +22,7 @@ use Rattle.rules.proofs.Tests.{some-inj, none≢some}
 use Rattle.rules.proofs.Rows.{in-replace, replace-in, replace-shorter, write-here, write-there}
 use Rattle.rules.proofs.Sizes.{worth, sizes-replace}
 use Rattle.invariants.specs.Sound.{Lawful, Row}
-use Rattle.invariants.proofs.Lots.{size-none, size-minus, size-min, size-most, a-lot}
+use Rattle.invariants.proofs.Lots.{size-none, size-minus, size-min, a-lot}
 use Rattle.invariants.proofs.Orders.{Instead, row-replace}
 
 -- ---- one order

@@ -15,3 +15,4 @@ pub mod Rests
 pub mod Sounds
 pub mod Steady
 pub mod Tables
+pub mod Tightness

@@ -1,13 +1,12 @@
 -- Sizes are multiples of the lot. Assumes nothing.
-use mathlib.Core.Path.{_≡_, refl, sym, _∙_, ap, subst}
+use mathlib.Core.Path.{_≡_, sym, subst}
 use mathlib.Core.Bool.{Bool, true, false, cond}
 use mathlib.Core.Logic.{_⊎_, inl, inr}
-use Prim.Native.Nat.{ℕ, _+_, _-_, _*_, _/_, _%_, _<_, _≤_, min}
+use Prim.Native.Nat.{ℕ, _+_, _-_, _/_, _%_, _<_, _≤_, min}
 use native.Mathlib.Nat.{zero-mod, dvd-sub, dvd-of-mod-eq-zero, mod-eq-zero-of-dvd, mod-eq-of-lt, le-div-iff-mul-le, div-mul-le-self}
 use native.Mathlib.Omega.{arith}
 use lib.Dec.{eqb, leb}
 use Rattle.std.proofs.shelf.Tests.{cases-lt, and-parts, and-from, eqb-true, eq-eqb, leb-true, le-leb}
-use Rattle.market.specs.Tenors.{lotOf}
 use Rattle.rules.specs.Board.{Opening, lot}
 use Rattle.rules.specs.Refusing.{isSize}
 

@@ -1,5 +1,5 @@
 -- Each draw that does not answer quiet brings the book nearer to rest. Assumes nothing.
-use mathlib.Core.Path.{_≡_, refl, sym, _∙_, ap, subst}
+use mathlib.Core.Path.{_≡_, refl, sym, _∙_, ap}
 use mathlib.Core.Bool.{Bool, true, false, cond}
 use mathlib.Core.List.{List}
 use mathlib.Core.Logic.{_⊎_, inl, inr}
@@ -10,15 +10,14 @@ use lib.ListN.{length}
 use Rattle.std.specs.declared.option.Option.{Option}
 use Rattle.std.specs.declared.option.Option.the-variants.{None, Some}
 use Rattle.std.proofs.shelf.Tests.{true≢false, false≢true, both-ways, leb-true, le-leb, lt-leb, and-parts, cond-true, cond-false}
-use Rattle.market.specs.Tenors.{within, lawful}
+use Rattle.market.specs.Tenors.{within}
 use Rattle.market.specs.declared.settings.Settings.{Settings}
 use Rattle.market.specs.declared.order.Order.{Order}
 use Rattle.market.specs.declared.order.Side.the-variants.{Bid, Offer}
 use Rattle.market.specs.declared.state.Phase.{Phase}
 use Rattle.market.specs.declared.state.Phase.the-variants.{Open, Timed, Rolling, Fbs}
 use Rattle.market.specs.declared.state.Session.{Session}
-use Rattle.rules.specs.Base.{each}
-use Rattle.rules.specs.Board.{Opening, Board, State, lot, meet, isOpen}
+use Rattle.rules.specs.Board.{Opening, Board, State, lot, isOpen}
 use Rattle.rules.specs.Entitlement.{firstEntitled}
 use Rattle.rules.specs.Fills.{replace, filledBoard, sessionAfter}
 use Rattle.rules.specs.Draws.{Step, begins, fills, removes, turns, expires, rests, phaseEnd, phaseAfter, started, begunBoard, removedBoard, turnedBoard, boardAfter, hiddenAfter}
@@ -33,7 +32,7 @@ use Rattle.invariants.specs.Sound.{Sound}
 use Rattle.invariants.proofs.Lots.{some-lot, lots-fall, lots-keep}
 use Rattle.invariants.proofs.Drawn.{after, first-entitled, taken}
 use Rattle.invariants.proofs.Rests.{isRest}
-use Rattle.invariants.proofs.Steady.{Steady, shut, fewer-opens, entitled-shut, end-shut, turned-shut, unmet}
+use Rattle.invariants.proofs.Steady.{Steady, fewer-opens, entitled-shut, end-shut, turned-shut, unmet}
 
 -- how often a phase can still begin before the tape rests
 abbrev pub turnsIn : Phase → Settings → Bool → ℕ → ℕ → ℕ

@@ -1,17 +1,16 @@
 -- Every call keeps the book orderly, and so does every run of calls. Assumes nothing.
 use mathlib.Core.Path.{_≡_, refl, sym, _∙_, ap, subst}
-use mathlib.Core.Bool.{Bool, true, false, cond, not, _&&_, _||_}
-use mathlib.Core.List.{List, [], _∷_, _++_}
+use mathlib.Core.Bool.{Bool, true, false, cond, not, _&&_}
+use mathlib.Core.List.{List, [], _∷_}
 use mathlib.Core.Logic.{_⊎_, inl, inr}
-use Prim.Native.Nat.{ℕ, _+_}
+use Prim.Native.Nat.{ℕ}
 use native.Mathlib.Omega.{arith}
 use lib.Dec.{eqb, ltb}
 use lib.IntN.{ℤ}
 use lib.Signed.{_≤ℤ_}
 use Rattle.std.specs.declared.option.Option.{Option}
 use Rattle.std.specs.declared.option.Option.the-variants.{None, Some}
-use Rattle.std.proofs.shelf.Tests.{true≢false, false≢true, both-ways, cases-bool, not-true, not-false, and-parts, and-from, and-cases, or-parts, eqb-true, eq-eqb, cond-true, cond-false}
-use Rattle.market.specs.declared.settings.Settings.{Settings}
+use Rattle.std.proofs.shelf.Tests.{true≢false, false≢true, both-ways, not-true, not-false, and-parts, and-from, or-parts, eq-eqb}
 use Rattle.market.specs.declared.order.Side.{Side}
 use Rattle.market.specs.declared.order.Side.the-variants.{Bid, Offer}
 use Rattle.market.specs.declared.order.Order.{Order}
@@ -23,10 +22,10 @@ use Rattle.market.specs.declared.call.OrderChange.{OrderChange}
 use Rattle.market.specs.declared.call.Call.{Call}
 use Rattle.market.specs.declared.call.Call.the-variants.{Entry, Change, Cancel, Tick, Draw}
 use Rattle.rules.specs.Base.{eqZ, isSome}
-use Rattle.rules.specs.Board.{Opening, Board, State, on, other, better, meet, inSession, isOpen, numbered}
+use Rattle.rules.specs.Board.{Opening, Board, State, on, other, better, meet, inSession, isOpen}
 use Rattle.rules.specs.Entitlement.{entitledIn, entitled, firstEntitled}
 use Rattle.rules.specs.Fills.{sessionAfter, filledBoard}
-use Rattle.rules.specs.Draws.{Step, begins, fills, removes, turns, expires, rests, incomingOf, phaseEnd, phaseAfter, removedBoard, turnedBoard, restedBoard, decided, boardAfter, hiddenAfter, draw}
+use Rattle.rules.specs.Draws.{Step, begins, fills, removes, turns, expires, rests, incomingOf, phaseAfter, removedBoard, turnedBoard, restedBoard, decided, boardAfter, draw}
 use Rattle.rules.specs.Refusing.{wouldMeet, ownMeets, entryPrice, isSize, owned, entryRefusal, changeRefusal, cancelRefusal, tickRefusal}
 use Rattle.rules.specs.Calls.{takesStamp, entered, enteredBoard, changed, changedBoard, cancelledBoard, tickedBoard, enteredState, changedState, cancelledState, step, run, opened}
 use Rattle.rules.specs.Members.{In}
@@ -39,11 +38,11 @@ use Rattle.rules.proofs.Reasons.{opens, Unpaired, Turns, Why, why}
 use Rattle.invariants.specs.Sound.{Sound}
 use Rattle.invariants.specs.Orderly.{Meets, Incoming, Traded, JustBegun, Orderly, StaysOrderly}
 use Rattle.invariants.proofs.Fills.{Left, left-whole}
-use Rattle.invariants.proofs.Drawn.{after, first-entitled, taken, without-in}
+use Rattle.invariants.proofs.Drawn.{after, taken, without-in}
 use Rattle.invariants.proofs.Passes.{EntryPasses, entry-passes, owned-in, ChangePasses, change-passes, cancel-passes, tick-passes}
 use Rattle.invariants.proofs.Sounds.{reply-keeps, call-sound, opened-sound}
-use Rattle.invariants.proofs.Rests.{Rest, isRest, at-rest, rest-rests, no-pair}
-use Rattle.invariants.proofs.Steady.{Steady, unmet, end-shut, call-steady, run-steady, opened-steady}
+use Rattle.invariants.proofs.Rests.{Rest, rest-rests, no-pair}
+use Rattle.invariants.proofs.Steady.{Steady, unmet, end-shut, call-steady, opened-steady}
 use Rattle.invariants.proofs.Crossings.{meets-meet, both-at, would-not}
 use Rattle.invariants.proofs.Beginnings.{there-is, begun-orderly}
 

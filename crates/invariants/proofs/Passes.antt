@@ -1,13 +1,12 @@
 -- What an accepted call has passed. Assumes nothing.
-use mathlib.Core.Path.{_≡_, refl, sym, _∙_, ap, subst}
+use mathlib.Core.Path.{_≡_, refl, sym, _∙_}
 use mathlib.Core.Bool.{Bool, true, false, not, _&&_, _||_}
 use mathlib.Core.List.{List, [], _∷_}
 use mathlib.Core.Logic.{_⊎_, inl, inr}
-use Prim.Native.Nat.{ℕ, _+_, _<_, _≤_}
+use Prim.Native.Nat.{ℕ, _<_, _≤_}
 use native.Mathlib.Omega.{arith}
 use lib.Dec.{eqb, leb, ltb}
 use lib.ListN.{length}
-use Rattle.std.specs.declared.option.Option.{Option}
 use Rattle.std.specs.declared.option.Option.the-variants.{None, Some}
 use Rattle.std.proofs.shelf.Tests.{true≢false, not-false, or-parts, and-parts, and-cases, eqb-true, eqb-false, leb-false, ltb-false}
 use Rattle.market.specs.declared.order.Order.{Order}
@@ -18,9 +17,9 @@ use Rattle.market.specs.declared.refusal.Refusal.{Refusal}
 use Rattle.market.specs.declared.refusal.Refusal.the-variants.{Book}
 use Rattle.rules.specs.Base.{someIf, verdict, Fails, isSome, count}
 use Rattle.rules.specs.Board.{Opening, Board, on, better, inSession, numbered}
-use Rattle.rules.specs.Refusing.{lastTime, mostWrites, mostOrders, isTrader, isPrice, isSize, untimely, ownMeets, roomFor, ending, lineFull, entryPrice, owned, badSizes, entryTests, entryRefusal, changeTests, changeOf, changeRefusal, cancelRefusal, tickRefusal}
+use Rattle.rules.specs.Refusing.{lastTime, mostWrites, mostOrders, isTrader, isPrice, isSize, untimely, ownMeets, roomFor, ending, lineFull, entryPrice, owned, entryTests, entryRefusal, changeTests, changeOf, changeRefusal, cancelRefusal, tickRefusal}
 use Rattle.rules.specs.Members.{In}
-use Rattle.rules.proofs.Tests.{none≢some, is-some}
+use Rattle.rules.proofs.Tests.{none≢some}
 use Rattle.rules.proofs.Members.{find-in}
 
 -- no test of the list passes

@@ -3,28 +3,26 @@ use mathlib.Core.Path.{_≡_, refl, sym, _∙_, ap, subst}
 use mathlib.Core.Bool.{Bool, true, false}
 use mathlib.Core.List.{List, [], _∷_, _++_}
 use mathlib.Core.Logic.{_⊎_, inl, inr}
-use Prim.Native.Nat.{ℕ, zero, suc, _+_, _<_, _≤_}
+use Prim.Native.Nat.{ℕ, zero, suc, _<_, _≤_}
 use native.Mathlib.Omega.{arith}
 use lib.ListN.{length, take, drop}
 use lib.Seq.{drop-append-seam}
 use Rattle.std.specs.declared.option.Option.{Option}
 use Rattle.std.specs.declared.option.Option.the-variants.{None, Some}
 use Rattle.std.proofs.shelf.Tests.{true≢false}
-use Rattle.market.specs.declared.record.Record.{Record}
 use Rattle.market.specs.declared.record.Record.the-variants.{Quiet}
 use Rattle.market.specs.declared.call.Call.{Call}
 use Rattle.market.specs.declared.call.Call.the-variants.{Entry, Change, Cancel, Tick, Draw}
 use Rattle.market.specs.declared.refusal.Refusal.{Refusal}
 use Rattle.market.specs.declared.answer.Answer.{Answer}
-use Rattle.market.specs.declared.answer.Answer.the-variants.{Refused, Entered, Done, Drawn}
+use Rattle.market.specs.declared.answer.Answer.the-variants.{Refused, Entered, Done}
 use Rattle.rules.specs.Board.{Opening, State}
-use Rattle.rules.specs.Draws.{Step, rests, decided, recordOf, draw}
+use Rattle.rules.specs.Draws.{decided, recordOf, draw}
 use Rattle.rules.specs.Refusing.{isSize, owned, entryRefusal, changeRefusal, cancelRefusal, tickRefusal}
 use Rattle.rules.specs.Calls.{tickedBoard, enteredState, changedState, cancelledState, replied, step, run, answers, opened}
-use Rattle.rules.specs.Members.{In}
 use Rattle.rules.proofs.Reasons.{opens, why}
 use Rattle.invariants.specs.Sound.{Sound}
-use Rattle.invariants.specs.Prompt.{lots, live, isAccepted, NoneAccepted, tape, TellsQuiet, patience, PromptRun, Prompt}
+use Rattle.invariants.specs.Prompt.{lots, live, isAccepted, NoneAccepted, tape, TellsQuiet, patience, Prompt}
 use Rattle.invariants.proofs.Drawn.{after}
 use Rattle.invariants.proofs.Sounds.{call-sound, sound}
 use Rattle.invariants.proofs.Rests.{isRest, is-rest}

@@ -1,42 +1,36 @@
 -- A quiet book is settled, and fills are of two traders' orders that meet. Assumes nothing.
-use mathlib.Core.Path.{_≡_, refl, sym, _∙_, ap, subst}
-use mathlib.Core.Bool.{Bool, true, false, cond, not, _&&_}
+use mathlib.Core.Path.{_≡_, refl, sym, _∙_, ap}
+use mathlib.Core.Bool.{Bool, true, false, not, _&&_}
 use mathlib.Core.List.{List}
-use mathlib.Core.Logic.{_⊎_, inl, inr}
 use Prim.Native.Nat.{ℕ, _<_}
 use native.Mathlib.Omega.{arith}
-use lib.Dec.{eqb, leb}
 use lib.IntN.{ℤ}
 use lib.Signed.{leZ, _≤ℤ_}
 use Rattle.std.specs.declared.option.Option.{Option}
 use Rattle.std.specs.declared.option.Option.the-variants.{None, Some}
 use Rattle.std.proofs.shelf.Signed.{ints}
-use Rattle.std.proofs.shelf.Tests.{true≢false, false≢true, both-ways, cases-bool, and-parts, leb-false}
+use Rattle.std.proofs.shelf.Tests.{false≢true, both-ways, and-parts, leb-false}
 use Rattle.market.specs.declared.order.Side.{Side}
 use Rattle.market.specs.declared.order.Side.the-variants.{Bid, Offer}
 use Rattle.market.specs.declared.order.OrderType.{OrderType}
-use Rattle.market.specs.declared.order.OrderType.the-variants.{FaS, FaK, FaKI}
 use Rattle.market.specs.declared.order.Order.{Order}
 use Rattle.market.specs.declared.state.Phase.{Phase}
 use Rattle.market.specs.declared.state.Phase.the-variants.{Open, Timed, Rolling, Fbs}
 use Rattle.market.specs.declared.record.Fill.{Fill}
 use Rattle.market.specs.declared.record.Record.the-variants.{Fill as FillRecord}
 use Rattle.market.specs.declared.call.Call.{Call}
-use Rattle.market.specs.declared.call.Call.the-variants.{Draw}
-use Rattle.market.specs.declared.answer.Answer.the-variants.{Drawn}
-use Rattle.rules.specs.Base.{eqZ}
-use Rattle.rules.specs.Board.{Opening, Board, State, same, best, cross, meet, inSession, isOpen}
+use Rattle.rules.specs.Board.{Opening, Board, State, same, best, cross, meet, inSession}
 use Rattle.rules.specs.Entitlement.{atPrice, priorLeft, passively, aggressively, inTimed, isAt, entitledIn, firstEntitled}
 use Rattle.rules.specs.Fills.{fillOf}
-use Rattle.rules.specs.Draws.{Step, begins, fills, removes, turns, expires, rests, mustGo, goes, phaseEnd, endsBy, dueBy, turnRecord, decided, recordOf, draw}
+use Rattle.rules.specs.Draws.{Step, begins, fills, removes, turns, expires, rests, mustGo, goes, phaseEnd, endsBy, turnRecord, decided, recordOf, draw}
 use Rattle.rules.specs.Calls.{step, run, opened}
 use Rattle.rules.specs.Members.{In}
 use Rattle.rules.specs.Rising.{Ascends}
 use Rattle.rules.proofs.Tests.{eqZ-true}
-use Rattle.rules.proofs.Prices.{Crossed, meet-crossed}
+use Rattle.rules.proofs.Prices.{meet-crossed}
 use Rattle.rules.proofs.Reasons.{Why, why}
 use Rattle.invariants.specs.Sound.{Sound}
-use Rattle.invariants.specs.Orderly.{Meets, Incoming, Traded, Orderly, Settled, QuietSettled, OfTwo, FillsOfTwo}
+use Rattle.invariants.specs.Orderly.{Meets, Orderly, Settled, QuietSettled, OfTwo, FillsOfTwo}
 use Rattle.invariants.proofs.Drawn.{first-entitled}
 use Rattle.invariants.proofs.Sounds.{sound}
 use Rattle.invariants.proofs.Rests.{refuted, Rest, no-pair}

@@ -3,12 +3,11 @@ use mathlib.Core.Path.{_≡_, refl, sym, _∙_, ap, subst}
 use mathlib.Core.Bool.{Bool, true, false, cond, _&&_}
 use mathlib.Core.List.{List}
 use mathlib.Core.Logic.{_⊎_, inl, inr}
-use Prim.Native.Nat.{ℕ, _+_, _≤_, max}
-use native.Mathlib.Omega.{arith}
+use Prim.Native.Nat.{ℕ}
 use lib.Dec.{leb}
 use Rattle.std.specs.declared.option.Option.{Option}
 use Rattle.std.specs.declared.option.Option.the-variants.{None, Some}
-use Rattle.std.proofs.shelf.Tests.{true≢false, false≢true, both-ways, cases-bool, le-leb}
+use Rattle.std.proofs.shelf.Tests.{false≢true, both-ways, cases-bool, le-leb}
 use Rattle.market.specs.declared.settings.Settings.{Settings}
 use Rattle.market.specs.declared.order.Side.{Side}
 use Rattle.market.specs.declared.order.Side.the-variants.{Bid, Offer}
@@ -20,7 +19,7 @@ use Rattle.rules.specs.Base.{orElse, onlyIf, find, first}
 use Rattle.rules.specs.Board.{Opening, Board, on, same, meet, isOpen}
 use Rattle.rules.specs.Standings.{ahead}
 use Rattle.rules.specs.Entitlement.{passively, aggressively, priorLeft, inTimed, entitledIn, entitled, firstEntitled}
-use Rattle.rules.specs.Draws.{Step, begins, fills, removes, turns, expires, rests, both, incomingOf, passiveFor, opening, pairing, goes, asRemoval, removing, phaseEnd, endsBy, dueBy, endsSooner, endingAt, withEnd, expiring, earlier, coming, decided, settledSession, restedBoard}
+use Rattle.rules.specs.Draws.{Step, begins, fills, removes, turns, expires, rests, both, incomingOf, opening, pairing, goes, asRemoval, removing, phaseEnd, endsBy, dueBy, endsSooner, endingAt, withEnd, expiring, earlier, coming, decided, settledSession, restedBoard}
 use Rattle.rules.specs.Members.{In}
 use Rattle.rules.proofs.Tests.{none≢some}
 use Rattle.rules.proofs.Members.{find-none}

@@ -1,9 +1,9 @@
 -- Every call keeps the book sound, and so does every run of calls. Assumes nothing.
-use mathlib.Core.Path.{_≡_, refl, sym, _∙_, ap, subst}
-use mathlib.Core.Bool.{Bool, true, false, cond, _&&_, _||_}
+use mathlib.Core.Path.{_≡_, refl, sym, _∙_, subst}
+use mathlib.Core.Bool.{Bool, true, false, cond, _&&_}
 use mathlib.Core.List.{List, [], _∷_, _++_}
 use mathlib.Core.Logic.{_⊎_, inl, inr}
-use Prim.Native.Nat.{ℕ, _+_, _*_, _^_, _<_, _≤_}
+use Prim.Native.Nat.{ℕ, _+_, _^_, _<_, _≤_}
 use native.Mathlib.Nat.{le-trans, le-refl}
 use native.Mathlib.Omega.{arith}
 use lib.Dec.{leb, ltb}
@@ -31,9 +31,9 @@ use Rattle.rules.proofs.Tests.{some-inj}
 use Rattle.rules.proofs.Members.{in-push}
 use Rattle.rules.proofs.Rows.{in-replace, write-here, write-there}
 use Rattle.rules.proofs.Sizes.{sizes-replace, sizes-push}
-use Rattle.invariants.specs.Sound.{Lawful, Row, Counted, NotPast, Timely, Sound, StaysSound}
+use Rattle.invariants.specs.Sound.{Lawful, Counted, NotPast, Sound, StaysSound}
 use Rattle.invariants.proofs.Lots.{size-most}
-use Rattle.invariants.proofs.Orders.{Instead, row-replace, row-without, Room, row-push, sizes-new}
+use Rattle.invariants.proofs.Orders.{Instead, row-replace, row-without, row-push, sizes-new}
 use Rattle.invariants.proofs.Tables.{table-length, adjust-length, taken-length, lost-length}
 use Rattle.invariants.proofs.Passes.{EntryPasses, entry-passes, owned-in, ChangePasses, change-passes, TickPasses, tick-passes}
 use Rattle.invariants.proofs.Drawn.{without-in, counted-without, draw-sound}

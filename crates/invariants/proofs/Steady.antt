@@ -1,10 +1,9 @@
 -- A quiet book has nothing left to do, and a session can begin only at the wished time. Assumes nothing.
-use mathlib.Core.Path.{_≡_, refl, sym, _∙_, ap, subst}
-use mathlib.Core.Bool.{Bool, true, false, cond, _&&_}
+use mathlib.Core.Path.{_≡_, refl, _∙_, ap}
+use mathlib.Core.Bool.{true, false, _&&_}
 use mathlib.Core.List.{List, [], _∷_}
 use mathlib.Core.Logic.{_⊎_, inl, inr}
-use Prim.Native.Nat.{ℕ, _+_, _<_, _≤_}
-use native.Mathlib.Omega.{arith}
+use Prim.Native.Nat.{ℕ}
 use lib.IntN.{ℤ}
 use Rattle.std.specs.declared.option.Option.{Option}
 use Rattle.std.specs.declared.option.Option.the-variants.{None, Some}
@@ -19,10 +18,10 @@ use Rattle.market.specs.declared.state.Session.{Session}
 use Rattle.market.specs.declared.call.Call.{Call}
 use Rattle.market.specs.declared.call.Call.the-variants.{Entry, Change, Cancel, Tick, Draw}
 use Rattle.rules.specs.Base.{isSome, find}
-use Rattle.rules.specs.Board.{Opening, Board, State, on, same, best, meet, isOpen, numbered, ordered}
+use Rattle.rules.specs.Board.{Opening, Board, State, on, best, meet, isOpen, numbered, ordered}
 use Rattle.rules.specs.Entitlement.{isAt, entitledIn, entitled, firstEntitled}
 use Rattle.rules.specs.Fills.{replace, filledBoard}
-use Rattle.rules.specs.Draws.{Step, begins, fills, removes, turns, expires, rests, incomingOf, phaseEnd, phaseAfter, begunBoard, removedBoard, turnedBoard, restedBoard, decided, boardAfter, hiddenAfter, draw}
+use Rattle.rules.specs.Draws.{Step, begins, fills, removes, turns, expires, rests, incomingOf, phaseEnd, phaseAfter, begunBoard, removedBoard, turnedBoard, restedBoard, decided, boardAfter, draw}
 use Rattle.rules.specs.Refusing.{isSize, owned, entryRefusal, changeRefusal, cancelRefusal, tickRefusal}
 use Rattle.rules.specs.Calls.{enteredBoard, changedBoard, cancelledBoard, tickedBoard, enteredState, changedState, cancelledState, step, run, opened}
 use Rattle.rules.specs.Opened.{rules}
@@ -30,7 +29,7 @@ use Rattle.rules.specs.Members.{In}
 use Rattle.rules.proofs.Tests.{none≢some, is-some, eq-same, eq-eqZ}
 use Rattle.rules.proofs.Members.{find-in, in-found}
 use Rattle.rules.proofs.Firsts.{first-none}
-use Rattle.rules.proofs.Prices.{IsBest, best-none, best-some, Crossed, meet-crossed, crossed-meet}
+use Rattle.rules.proofs.Prices.{best-none, best-some, meet-crossed, crossed-meet}
 use Rattle.rules.proofs.Reasons.{opensIn, opens, Unpaired, Why, why}
 use Rattle.invariants.proofs.Drawn.{after, first-entitled, without-in}
 use Rattle.invariants.proofs.Passes.{tick-passes}

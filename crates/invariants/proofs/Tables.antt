@@ -1,10 +1,9 @@
 -- Tables keep their length. Assumes nothing.
-use mathlib.Core.Path.{_≡_, refl, _∙_, ap}
+use mathlib.Core.Path.{_≡_, refl}
 use mathlib.Core.Bool.{Bool, true, false}
-use mathlib.Core.List.{List}
 use Prim.Native.Nat.{ℕ, zero, suc, _+_, _*_}
 use native.Mathlib.Omega.{arith}
-use lib.ListN.{length, set, length-set}
+use lib.ListN.{length, length-set}
 use Rattle.std.specs.declared.option.Option.{Option}
 use Rattle.std.specs.declared.option.Option.the-variants.{None, Some}
 use Rattle.market.specs.declared.order.Side.{Side}
@@ -14,7 +13,7 @@ use Rattle.market.specs.declared.state.Privilege.{Privilege}
 use Rattle.market.specs.declared.state.Phase.{Phase}
 use Rattle.market.specs.declared.state.Phase.the-variants.{Open, Timed, Rolling, Fbs}
 use Rattle.market.specs.declared.call.OrderEntry.{OrderEntry}
-use Rattle.rules.specs.Board.{Board, Table, seat, lookup, place, rows, table, empty}
+use Rattle.rules.specs.Board.{Board, Table, seat, lookup, place, rows, table}
 use Rattle.rules.specs.Privileges.{firstCompletion, completed, granted, earned, lost, adjusted, adjust}
 use Rattle.rules.specs.Fills.{Remainder, stays, restocks, leaves, completionsAfter, privilegesAfter}
 use Rattle.rules.specs.Draws.{privilegesIn}

@@ -1,10 +1,9 @@
 -- What holds of every state that calls lead to. Assumes nothing.
 use mathlib.Core.Path.{_≡_}
 use mathlib.Core.Bool.{true}
-use mathlib.Core.List.{List, [], _∷_}
+use mathlib.Core.List.{List}
 use Prim.Native.Nat.{ℕ, _+_, _*_, _<_, _≤_}
 use lib.ListN.{length}
-use lib.IntN.{ℤ}
 use Rattle.std.specs.declared.option.Option.{Option}
 use Rattle.std.specs.declared.option.Option.the-variants.{None, Some}
 use Rattle.market.specs.declared.order.Side.the-variants.{Bid, Offer}
@@ -13,11 +12,9 @@ use Rattle.market.specs.declared.state.Phase.{Phase}
 use Rattle.market.specs.declared.state.Clock.{Clock}
 use Rattle.market.specs.declared.state.Counters.{Counters}
 use Rattle.market.specs.declared.state.Session.{Session}
-use Rattle.market.specs.declared.state.Completion.{Completion}
-use Rattle.market.specs.declared.state.Privilege.{Privilege}
 use Rattle.market.specs.declared.call.Call.{Call}
 use Rattle.rules.specs.Base.{count}
-use Rattle.rules.specs.Board.{Opening, State, Table, on}
+use Rattle.rules.specs.Board.{Opening, State, on}
 use Rattle.rules.specs.Draws.{phaseEnd}
 use Rattle.rules.specs.Refusing.{lastTime, mostWrites, mostOrders, isTrader, isPrice, isSize, ending}
 use Rattle.rules.specs.Calls.{run, opened}
