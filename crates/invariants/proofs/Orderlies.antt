@@ -227,6 +227,15 @@ quiet-unmet k b n up r q h x y i j m = go (b .phase) refl
 pub quiet-traded : (k : Opening) (b : Board) → Rest k b → Orderly b → isOpen (b .phase) ≡ false → Traded (b .session)
 quiet-traded k b r q h = had b q h (no-pair b (r .unpaired))
 
+-- so in Rolling and the FBS Period, and once the session has been quiet, it has had a fill
+pub traded-later : (b : Board) → Orderly b → isOpen (b .phase) ≡ false → ¬ (b .phase ≡ Timed) ⊎ (b .session .settled ≡ true) → Traded (b .session)
+traded-later b q h late = go (q .traded h) late
+  where
+    go : Traded (b .session) ⊎ JustBegun b → ¬ (b .phase ≡ Timed) ⊎ (b .session .settled ≡ true) → Traded (b .session)
+    go (inl t) l = t
+    go (inr j) (inl n) = absurd (n (j .timed))
+    go (inr j) (inr s) = absurd (both-ways (b .session .settled) (j .unsettled) s)
+
 -- ---- entry
 
 own-meets : (os : List Order) (t : ℕ) (s : Side) (p : ℤ) (z o : Order) → ownMeets os t s p ≡ false → In o os → o .trader ≡ t → o .side ≡ other s →

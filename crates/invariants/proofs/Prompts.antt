@@ -6,7 +6,7 @@ use mathlib.Core.Logic.{_⊎_, inl, inr}
 use Prim.Native.Nat.{ℕ, zero, suc, _<_, _≤_}
 use native.Mathlib.Omega.{arith}
 use lib.ListN.{length, take, drop}
-use lib.Seq.{drop-append-seam}
+use lib.Seq.{take-append-seam, drop-append-seam}
 use Rattle.std.specs.declared.option.Option.{Option}
 use Rattle.std.specs.declared.option.Option.the-variants.{None, Some}
 use Rattle.std.proofs.shelf.Tests.{true≢false}
@@ -22,7 +22,7 @@ use Rattle.rules.specs.Refusing.{isSize, owned, entryRefusal, changeRefusal, ca
 use Rattle.rules.specs.Calls.{tickedBoard, enteredState, changedState, cancelledState, replied, step, run, answers, opened}
 use Rattle.rules.proofs.Reasons.{opens, why}
 use Rattle.invariants.specs.Sound.{Sound}
-use Rattle.invariants.specs.Prompt.{lots, live, isAccepted, NoneAccepted, tape, TellsQuiet, patience, Prompt}
+use Rattle.invariants.specs.Prompt.{lots, live, isAccepted, NoneAccepted, tape, TellsQuiet, patience, toldOf, Prompt}
 use Rattle.invariants.proofs.Drawn.{after}
 use Rattle.invariants.proofs.Sounds.{call-sound, sound}
 use Rattle.invariants.proofs.Rests.{isRest, is-rest}
@@ -102,18 +102,25 @@ unfolding answers
 answers-length k S [] = refl
 answers-length k S (c ∷ cs) = ap suc (answers-length k (step k S c .1) cs)
 
-since-then : (k : Opening) (cs ds : List Call) → drop (length cs) (answers k opened (cs ++ ds)) ≡ answers k (run k opened cs) ds
-since-then k cs ds =
-    ap (drop (length cs)) (answers-append k opened cs ds) ∙
-    ap (λ (n : ℕ). drop n (answers k opened cs ++ answers k (run k opened cs) ds)) (sym (answers-length k opened cs)) ∙
-    drop-append-seam (answers k opened cs) (answers k (run k opened cs) ds)
+told-since : (k : Opening) (earlier since later : List Call) →
+    toldOf earlier since (answers k opened (earlier ++ (since ++ later))) ≡ answers k (run k opened earlier) since
+told-since k earlier since later =
+    let S = run k opened earlier in
+    let e = answers-append k opened earlier (since ++ later) in
+    let f = answers-append k S since later in
+    ap (λ (t : List Answer). take (length since) (drop (length earlier) t)) e ∙
+    ap (λ (n : ℕ). take (length since) (drop n (answers k opened earlier ++ answers k S (since ++ later)))) (sym (answers-length k opened earlier)) ∙
+    ap (take (length since)) (drop-append-seam (answers k opened earlier) (answers k S (since ++ later))) ∙
+    ap (take (length since)) f ∙
+    ap (λ (n : ℕ). take n (answers k S since ++ answers k (run k S since) later)) (sym (answers-length k S since)) ∙
+    take-append-seam (answers k S since) (answers k (run k S since) later)
 
 pub prompt : Prompt
 unfolding lots live
-prompt k calls earlier since e j f m =
+prompt k calls earlier since later e j f m =
     let S = run k opened earlier in
-    let d : drop (length earlier) (answers k opened calls) ≡ answers k S since =
-    ap (λ (c : List Call). drop (length earlier) (answers k opened c)) e ∙ since-then k earlier since in
+    let d : toldOf earlier since (answers k opened calls) ≡ answers k S since =
+    ap (λ (c : List Call). toldOf earlier since (answers k opened c)) e ∙ told-since k earlier since later in
     let t = turns-most (S .board .phase) (k .settings) (opens (S .board)) (S .board .session .since) (S .board .clock .wished) in
     subst (λ (told : List Answer). NoneAccepted told → patience k S ≤ length (tape told) → TellsQuiet (take (patience k S) (tape told))) (sym d)
     (settles k since S (patience k S) (sound k earlier) (run-steady k opened earlier (opened-steady k)) (omega arith)) f m

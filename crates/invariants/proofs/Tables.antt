@@ -1,12 +1,15 @@
 -- Tables keep their length. Assumes nothing.
 use mathlib.Core.Path.{_≡_, refl}
 use mathlib.Core.Bool.{Bool, true, false}
-use Prim.Native.Nat.{ℕ, zero, suc, _+_, _*_}
+use Prim.Native.Nat.{ℕ, zero, suc, _+_, _*_, _<_, _≤_}
 use native.Mathlib.Omega.{arith}
+use lib.Dec.{leb}
 use lib.ListN.{length, length-set}
 use Rattle.std.specs.declared.option.Option.{Option}
 use Rattle.std.specs.declared.option.Option.the-variants.{None, Some}
+use Rattle.std.proofs.shelf.Tests.{and-parts, leb-true}
 use Rattle.market.specs.declared.order.Side.{Side}
+use Rattle.market.specs.declared.order.Side.the-variants.{Bid, Offer}
 use Rattle.market.specs.declared.order.Order.{Order}
 use Rattle.market.specs.declared.state.Completion.{Completion}
 use Rattle.market.specs.declared.state.Privilege.{Privilege}
@@ -17,6 +20,7 @@ use Rattle.rules.specs.Board.{Board, Table, seat, lookup, place, rows, table}
 use Rattle.rules.specs.Privileges.{firstCompletion, completed, granted, earned, lost, adjusted, adjust}
 use Rattle.rules.specs.Fills.{Remainder, stays, restocks, leaves, completionsAfter, privilegesAfter}
 use Rattle.rules.specs.Draws.{privilegesIn}
+use Rattle.rules.specs.Refusing.{isTrader}
 use Rattle.rules.specs.Calls.{takenAt, lostAt}
 
 module _ {X : Type 0} where
@@ -74,3 +78,12 @@ turned-length Open b = table-length (λ t s. None)
 turned-length Timed b = table-length (λ t s. None)
 turned-length Rolling b = table-length (earned (b .orders) (b .completions))
 turned-length Fbs b = table-length (λ t s. None)
+
+-- ---- every trader has a place
+
+pub trader-range : (t : ℕ) → isTrader t ≡ true → (1 ≤ t) × (t ≤ 128)
+trader-range t h = let p = and-parts (leb 1 t) (leb t 128) h in (leb-true 1 t (p .0), leb-true t 128 (p .1))
+
+pub seat-range : (t : ℕ) (s : Side) → isTrader t ≡ true → seat t s < 258
+seat-range t Bid h = let l = trader-range t h .1 in omega arith
+seat-range t Offer h = let l = trader-range t h .1 in omega arith

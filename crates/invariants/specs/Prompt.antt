@@ -54,13 +54,17 @@ TellsQuiet rs = (time : ℕ) × In (Quiet time) rs
 abbrev pub patience : Opening → State → ℕ
 patience k S = lots k S + live S + 4
 
--- a run of calls from the opening, with these answers: if no entry, change, cancel or tick was accepted since the earlier calls, of
--- which the last was such a one, then one of the first so many draws since then answers quiet
+-- of the answers to all calls, those to the calls that follow the earlier ones
+abbrev pub toldOf : List Call → List Call → List Answer → List Answer
+toldOf earlier since told = take (length since) (drop (length earlier) told)
+
+-- a run of calls from the opening, with these answers: wherever an entry, change, cancel or tick was accepted last, or none was yet,
+-- and none is while so many draws come, one of those draws answers quiet
 abbrev pub PromptRun : Opening → List Call → List Answer → Type 0
 PromptRun k calls told =
-    (earlier since : List Call) → calls ≡ earlier ++ since → JustAccepted (take (length earlier) told) → NoneAccepted (drop (length earlier) told) →
-    patience k (run k opened earlier) ≤ length (tape (drop (length earlier) told)) →
-    TellsQuiet (take (patience k (run k opened earlier)) (tape (drop (length earlier) told)))
+    (earlier since later : List Call) → calls ≡ earlier ++ (since ++ later) → JustAccepted (take (length earlier) told) →
+    NoneAccepted (toldOf earlier since told) → patience k (run k opened earlier) ≤ length (tape (toldOf earlier since told)) →
+    TellsQuiet (take (patience k (run k opened earlier)) (tape (toldOf earlier since told)))
 
 abbrev pub Prompt : Type 0
 Prompt = (k : Opening) (calls : List Call) → PromptRun k calls (answers k opened calls)
