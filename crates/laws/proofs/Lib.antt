@@ -1,0 +1,3 @@
+pub mod Entitles
+pub mod Fairly
+pub mod Leading
