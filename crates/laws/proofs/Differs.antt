@@ -14,7 +14,7 @@ use Rattle.market.specs.declared.call.Call.the-variants.{Draw}
 use Rattle.rules.specs.Base.{write}
 use Rattle.rules.specs.Board.{Opening}
 use Rattle.rules.specs.Calls.{step, run, opened}
-use Rattle.rules.specs.Examples.{tenYears}
+use Rattle.rules.specs.Samples.{tenYears}
 use Rattle.rules.specs.Refusing.{isSize}
 use Rattle.rules.specs.Opened.{rules}
 use Rattle.rules.proofs.Rows.{write-there}
