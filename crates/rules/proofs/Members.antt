@@ -1,14 +1,14 @@
 -- What stands in lists that the rules search, map and add to. Assumes nothing.
 use mathlib.Core.Path.{_≡_, refl, sym, ap, subst}
-use mathlib.Core.Bool.{Bool, true, false, _||_}
+use mathlib.Core.Bool.{Bool, true, false}
 use mathlib.Core.List.{List, [], _∷_, _++_}
 use mathlib.Core.Logic.{_⊎_, inl, inr}
-use Prim.Native.Nat.{ℕ, suc}
+use Prim.Native.Nat.{suc}
 use lib.ListN.{length}
 use Rattle.std.specs.declared.option.Option.{Option}
 use Rattle.std.specs.declared.option.Option.the-variants.{None, Some}
 use Rattle.std.proofs.shelf.Tests.{false≢true, both-ways, or-cases, or-left, or-right}
-use Rattle.rules.specs.Base.{any, find, someIf, each, isSome}
+use Rattle.rules.specs.Base.{any, find, someIf, each}
 use Rattle.rules.specs.Members.{In}
 use Rattle.rules.proofs.Tests.{some-inj, none≢some}
 

@@ -1,8 +1,7 @@
 -- The orders of a side are ranked. Assumes nothing.
-use mathlib.Core.Path.{_≡_, refl, sym, _∙_, ap, subst}
+use mathlib.Core.Path.{_≡_, sym, _∙_, ap}
 use mathlib.Core.Bool.{Bool, true, false}
 use mathlib.Core.Logic.{_⊎_, inl, inr}
-use Prim.Native.Nat.{ℕ}
 use Rattle.std.proofs.shelf.Tests.{cases-bool}
 use Rattle.line.specs.Order.{Order as TotalOrder}
 use Rattle.line.proofs.Orders.{lowerZ-on, lowerZ-back}

@@ -1,5 +1,5 @@
 -- Why a draw takes the step that it takes. Assumes nothing.
-use mathlib.Core.Path.{_≡_, refl, _∙_, ap}
+use mathlib.Core.Path.{_≡_, refl}
 use mathlib.Core.Bool.{Bool, true, false, cond, _&&_}
 use mathlib.Core.List.{List}
 use mathlib.Core.Logic.{_⊎_, inl, inr}
@@ -8,14 +8,13 @@ use native.Mathlib.Nat.{le-trans}
 use lib.Dec.{leb}
 use Rattle.std.specs.declared.option.Option.{Option}
 use Rattle.std.specs.declared.option.Option.the-variants.{None, Some}
-use Rattle.std.proofs.shelf.Tests.{false≢true, leb-true, and-parts}
+use Rattle.std.proofs.shelf.Tests.{leb-true, and-parts}
 use Rattle.market.specs.declared.order.Side.{Side}
 use Rattle.market.specs.declared.order.Side.the-variants.{Bid, Offer}
 use Rattle.market.specs.declared.order.Order.{Order}
 use Rattle.market.specs.declared.state.Phase.{Phase}
-use Rattle.market.specs.declared.record.Cause.{Cause}
 use Rattle.rules.specs.Base.{orElse, onlyIf, isSome, find, first}
-use Rattle.rules.specs.Board.{Opening, Board, on, other, meet, isOpen, ordered}
+use Rattle.rules.specs.Board.{Opening, Board, on, other, meet, isOpen}
 use Rattle.rules.specs.Standings.{ahead}
 use Rattle.rules.specs.Entitlement.{firstEntitled}
 use Rattle.rules.specs.Draws.{Step, begins, fills, removes, turns, expires, rests, both, incomingOf, passiveFor, opening, pairing, causeOf, goes, asRemoval, removing, phaseEnd, endsBy, dueBy, endsSooner, endingAt, withEnd, expiring, earlier, coming, decided}

@@ -1,6 +1,6 @@
 -- The row of live orders: ascending numbers, and what stays when an order is put in another's place. Assumes nothing.
 use mathlib.Core.Path.{_≡_, refl, sym, _∙_, ap, subst}
-use mathlib.Core.Bool.{Bool, true, false, cond}
+use mathlib.Core.Bool.{Bool, true, false}
 use mathlib.Core.List.{List, [], _∷_, _++_}
 use mathlib.Core.Logic.{_⊎_, inl, inr}
 use Prim.Native.Nat.{ℕ, suc, _+_, _<_, _≤_}
@@ -17,7 +17,6 @@ use Rattle.rules.specs.Fills.{replacing, replace}
 use Rattle.rules.specs.Members.{In}
 use Rattle.rules.specs.Rising.{Ascends, Keeps}
 use Rattle.rules.proofs.Members.{find-in, in-found}
-use Rattle.rules.proofs.Tests.{some-inj}
 
 -- ---- ascending numbers
 
