@@ -6,7 +6,7 @@ use Rattle.market.specs.declared.record.Record.the-variants.{Quiet, Rolling, Fb
 use Rattle.market.specs.declared.call.Call.{Call}
 use Rattle.market.specs.declared.call.Call.the-variants.{Tick, Draw}
 use Rattle.rules.specs.Calls.{run, answers, opened}
-use Rattle.rules.specs.Examples.{tenYears, enter}
+use Rattle.rules.specs.Samples.{tenYears, enter}
 use Rattle.invariants.specs.Prompt.{JustAccepted, tape, patience}
 
 -- a bid and an offer trade all that they have, and time is to pass
