@@ -5,8 +5,16 @@ pub mod Draws
 pub mod Entitlement
 pub mod Examples
 pub mod Fills
+pub mod Members
 pub mod Opened
+pub mod PrivilegeExamples
 pub mod Privileges
+pub mod RefusalExamples
 pub mod Refusing
+pub mod RemovalExamples
+pub mod Rising
+pub mod Samples
+pub mod SessionExamples
+pub mod Sizes
 pub mod Standings
 pub mod Summaries

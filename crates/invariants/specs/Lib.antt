@@ -1,0 +1,4 @@
+pub mod Orderly
+pub mod Prompt
+pub mod Sound
+pub mod Tight
