@@ -30,8 +30,8 @@ then cs = run tenYears ended cs
 abbrev pub overtaken : State
 overtaken =
     after
-    (enter 1 Bid 100 50 0 ∷ Draw ∷ enter 2 Offer 98 50 0 ∷ Draw ∷ Draw ∷ Draw ∷ enter 3 Bid 100 100 0 ∷ Draw ∷ enter 1 Bid 100 100 0 ∷ Draw ∷
-    Tick 5000 ∷ Draw ∷ enter 2 Offer 100 50 0 ∷ Draw ∷ Draw ∷ Tick 10000 ∷ Draw ∷ Draw ∷ enter 5 Offer 100 50 0 ∷ Draw ∷ Draw ∷
+    (enter 1 Bid 100 50 0 ∷ Draw ∷ enter 2 Offer 98 50 0 ∷ Draw ∷ Draw ∷ Draw ∷ enter 3 Bid 100 100 0 ∷ Draw ∷
+    enter 1 Bid 100 100 0 ∷ Draw ∷ Tick 5000 ∷ Draw ∷ enter 2 Offer 100 50 0 ∷ Draw ∷ Draw ∷ Tick 10000 ∷ Draw ∷ Draw ∷ enter 5 Offer 100 50 0 ∷ Draw ∷ Draw ∷
     change 3 3 99 50 ∷ Draw ∷ change 1 4 99 50 ∷ Draw ∷ enter 7 Bid 100 50 0 ∷ Draw ∷ enter 8 Offer 100 50 0 ∷ Draw ∷ Draw ∷
     Tick 20000 ∷ Draw ∷ Draw ∷ [])
 
@@ -81,7 +81,8 @@ pub record PrivilegeExamples : Type 0 where
       (Entered 9 ∷ filled 20000 99 50 4 0 9 0 ∷ quiet 20000 ∷ [])
   -- a fill in the FBS Period moves nobody: trader 6 stays the Last Buyer
   pub unmoved : answers tenYears ended
-      (enter 8 Offer 100 50 0 ∷ Draw ∷ Draw ∷ enter 1 Bid 100 50 0 ∷ Draw ∷ enter 6 Bid 100 50 0 ∷ Draw ∷ enter 8 Offer 100 50 0 ∷ Draw ∷ Draw ∷ []) ≡
+      (enter 8 Offer 100 50 0 ∷ Draw ∷ Draw ∷ enter 1 Bid 100 50 0 ∷ Draw ∷ enter 6 Bid 100 50 0 ∷ Draw ∷ enter 8 Offer 100 50 0 ∷
+      Draw ∷ Draw ∷ []) ≡
       (Entered 8 ∷ filled 10000 100 50 1 0 8 0 ∷ quiet 10000 ∷ Entered 9 ∷ quiet 10000 ∷ Entered 10 ∷ quiet 10000 ∷ Entered 11 ∷
       filled 10000 100 50 10 0 11 0 ∷ quiet 10000 ∷ [])
 

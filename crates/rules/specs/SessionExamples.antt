@@ -32,10 +32,12 @@ pub record SessionExamples : Type 0 where
       (after (enter 1 Bid 100 50 0 ∷ Draw ∷ enter 2 Offer 98 100 0 ∷ Draw ∷ Draw ∷ []) .board .orders) ≡ ((2, 2) ∷ [])
 
   -- the passive order is the best, and an order behind its price is not prior
-  pub passive : answers tenYears opened (enter 1 Bid 99 50 0 ∷ Draw ∷ enter 2 Bid 100 50 0 ∷ Draw ∷ enter 3 Offer 98 100 0 ∷ Draw ∷ Draw ∷ Draw ∷ []) ≡
+  pub passive : answers tenYears opened
+      (enter 1 Bid 99 50 0 ∷ Draw ∷ enter 2 Bid 100 50 0 ∷ Draw ∷ enter 3 Offer 98 100 0 ∷ Draw ∷ Draw ∷ Draw ∷ []) ≡
       (Entered 1 ∷ quiet 0 ∷ Entered 2 ∷ quiet 0 ∷ Entered 3 ∷ session 0 100 2 ∷ filled 0 100 50 2 0 3 50 ∷ quiet 0 ∷ [])
   -- a change that makes prices meet is the trigger
-  pub changed : answers tenYears opened (enter 1 Bid 99 50 0 ∷ Draw ∷ enter 2 Offer 100 50 0 ∷ Draw ∷ change 1 1 101 50 ∷ Draw ∷ Draw ∷ Draw ∷ []) ≡
+  pub changed : answers tenYears opened
+      (enter 1 Bid 99 50 0 ∷ Draw ∷ enter 2 Offer 100 50 0 ∷ Draw ∷ change 1 1 101 50 ∷ Draw ∷ Draw ∷ Draw ∷ []) ≡
       (Entered 1 ∷ quiet 0 ∷ Entered 2 ∷ quiet 0 ∷ Done ∷ session 0 100 2 ∷ filled 0 100 50 1 0 2 0 ∷ quiet 0 ∷ [])
 
   -- Rolling ends a period after the last fill, be that in Timed
@@ -78,7 +80,8 @@ pub record SessionExamples : Type 0 where
       quiet 0 ∷ Entered 4 ∷ quiet 0 ∷ Entered 5 ∷ quiet 0 ∷ Entered 6 ∷ filled 0 100 50 6 0 5 0 ∷ quiet 0 ∷ [])
 
   -- nor does the Aggressive Owner of an earlier session own the next
-  pub anew : answers tenYears secondSession (enter 5 Offer 101 50 0 ∷ Draw ∷ Draw ∷ []) ≡ (Entered 5 ∷ filled 30000 101 50 3 0 5 0 ∷ quiet 30000 ∷ [])
+  pub anew : answers tenYears secondSession (enter 5 Offer 101 50 0 ∷ Draw ∷ Draw ∷ []) ≡
+      (Entered 5 ∷ filled 30000 101 50 3 0 5 0 ∷ quiet 30000 ∷ [])
 
   -- in the FBS Period the fill is at the price of the order that is not incoming; it begins no session and does not move the
   -- period's end
