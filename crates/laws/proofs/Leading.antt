@@ -135,11 +135,11 @@ pub ahead-from : (b : Board) (s : Side) (o p : Order) → aheadOn s b o p ≡ tr
 unfolding sooner
 ahead-from b s o p h =
     record {
-      class = standing b o .class;
-      place = standing b o .place;
+      class = c;
+      place = m;
       standing = in-class b o;
-      against = standing b p .class;
-      further = standing b p .place;
+      against = d;
+      further = n;
       other = in-class b p;
       before = before s h;
     }
@@ -150,32 +150,38 @@ ahead-from b s o p h =
     d : Class
     d = standing b p .class
 
-    Rest : Type 0
-    Rest = (classNumber c < classNumber d) ⊎
-        ((classNumber c ≡ classNumber d) × (Earlier c (standing b o .place) (standing b p .place) ⊎ ((standing b o .place ≡ standing b p .place) × (o .number < p .number))))
+    m : ℕ
+    m = standing b o .place
 
-    number : Earlier c (standing b o .place) (standing b p .place) ⊎ ((standing b o .place ≡ standing b p .place) × (ltb (o .number) (p .number) ≡ true)) →
-        Earlier c (standing b o .place) (standing b p .place) ⊎ ((standing b o .place ≡ standing b p .place) × (o .number < p .number))
-    number (inl k) = inl k
-    number (inr k) = inr (k .0, ltb-true (o .number) (p .number) (k .1))
+    n : ℕ
+    n = standing b p .place
 
-    placed : (classNumber c < classNumber d) ⊎ ((classNumber c ≡ classNumber d) × (earlier c (standing b o .place) (standing b p .place) (ltb (o .number) (p .number)) ≡ true)) → Rest
-    placed (inl k) = inl k
-    placed (inr k) = inr (k .0, number (earlier-ways c (standing b o .place) (standing b p .place) (ltb (o .number) (p .number)) (k .1)))
+    Placed : Type 0
+    Placed = Earlier c m n ⊎ ((m ≡ n) × (o .number < p .number))
 
-    rest : sooner (rankOf b o) (rankOf b p) ≡ true → Rest
-    rest k = placed (lower-ways (classNumber c) (classNumber d) _ k)
+    Ranked : Type 0
+    Ranked = (classNumber c < classNumber d) ⊎ ((classNumber c ≡ classNumber d) × Placed)
 
-    before : (s : Side) → aheadOn s b o p ≡ true → Before s o c (standing b o .place) p d (standing b p .place)
+    by-place : Earlier c m n ⊎ ((m ≡ n) × (ltb (o .number) (p .number) ≡ true)) → Placed
+    by-place (inl k) = inl k
+    by-place (inr k) = inr (k .0, ltb-true (o .number) (p .number) (k .1))
+
+    by-class : (classNumber c < classNumber d) ⊎
+        ((classNumber c ≡ classNumber d) × (earlier c m n (ltb (o .number) (p .number)) ≡ true)) → Ranked
+    by-class (inl k) = inl k
+    by-class (inr k) = inr (k .0, by-place (earlier-ways c m n (ltb (o .number) (p .number)) (k .1)))
+
+    ranked : sooner (rankOf b o) (rankOf b p) ≡ true → Ranked
+    ranked k = by-class (lower-ways (classNumber c) (classNumber d) _ k)
+
+    before : (s : Side) → aheadOn s b o p ≡ true → Before s o c m p d n
     before Bid h = go (lowerZ-ways (p .price) (o .price) _ h)
       where
-        go : (p .price <ℤ o .price) ⊎ ((p .price ≡ o .price) × (sooner (rankOf b o) (rankOf b p) ≡ true)) →
-            Before Bid o c (standing b o .place) p d (standing b p .place)
+        go : (p .price <ℤ o .price) ⊎ ((p .price ≡ o .price) × (sooner (rankOf b o) (rankOf b p) ≡ true)) → Before Bid o c m p d n
         go (inl k) = inl k
-        go (inr k) = inr (sym (k .0), rest (k .1))
+        go (inr k) = inr (sym (k .0), ranked (k .1))
     before Offer h = go (lowerZ-ways (o .price) (p .price) _ h)
       where
-        go : (o .price <ℤ p .price) ⊎ ((o .price ≡ p .price) × (sooner (rankOf b o) (rankOf b p) ≡ true)) →
-            Before Offer o c (standing b o .place) p d (standing b p .place)
+        go : (o .price <ℤ p .price) ⊎ ((o .price ≡ p .price) × (sooner (rankOf b o) (rankOf b p) ≡ true)) → Before Offer o c m p d n
         go (inl k) = inl k
-        go (inr k) = inr (k .0, rest (k .1))
+        go (inr k) = inr (k .0, ranked (k .1))

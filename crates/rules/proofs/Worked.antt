@@ -13,13 +13,17 @@ sessions =
     record {
       trigger = refl;
       stamped = refl;
+      passive = refl;
+      changed = refl;
       rolls = refl;
+      late = refl;
       restocked = refl;
       smaller = refl;
       shown = refl;
       reduced = refl;
       enlarged = refl;
       owners = refl;
+      anew = refl;
       outside = refl;
     }
 
@@ -28,15 +32,18 @@ unfolding rules
 privileges =
     record {
       part = refl;
-      whole = refl;
+      complete = refl;
       since = refl;
       seller = refl;
       none = refl;
       both = refl;
-      later = refl;
+      slower = refl;
       earliest = refl;
+      firstly = refl;
+      past = refl;
       classes = refl;
       queue = refl;
+      unmoved = refl;
       freed = refl;
       passed = refl;
       taken = refl;
@@ -59,6 +66,7 @@ removals =
       rest = refl;
       unfilled = refl;
       lowest = refl;
+      changed = refl;
       moment = refl;
       freed = refl;
     }

@@ -11,7 +11,7 @@ use Rattle.market.specs.declared.call.Call.the-variants.{Tick, Draw}
 use Rattle.market.specs.declared.answer.Answer.the-variants.{Entered}
 use Rattle.rules.specs.Board.{State}
 use Rattle.rules.specs.Calls.{run, answers}
-use Rattle.rules.specs.Samples.{tenYears, enterAs, enter, change, cancel, quiet, filled, after, privilege, priorityOne, priorityTwo}
+use Rattle.rules.specs.Samples.{tenYears, enterAs, enter, change, cancel, quiet, filled, after, secondSession, privilege, priorityOne, priorityTwo}
 
 -- fills 1 to 4 are of bids 1 to 4 with offer 5. Bid 1 of trader 1 restocks and is filled in part; traders 2, 3 and 6 are filled whole,
 -- and trader 6 is the Last Buyer. Trader 3 then enters bid 6, and trader 4 bid 7; the FBS Period begins
@@ -30,8 +30,8 @@ then cs = run tenYears ended cs
 abbrev pub overtaken : State
 overtaken =
     after
-    (enter 1 Bid 100 50 0 ∷ Draw ∷ enter 2 Offer 98 50 0 ∷ Draw ∷ Draw ∷ Draw ∷ enter 3 Bid 100 100 0 ∷ Draw ∷ enter 1 Bid 100 100 0 ∷ Draw ∷
-    Tick 5000 ∷ Draw ∷ enter 2 Offer 100 50 0 ∷ Draw ∷ Draw ∷ Tick 10000 ∷ Draw ∷ Draw ∷ enter 5 Offer 100 50 0 ∷ Draw ∷ Draw ∷
+    (enter 1 Bid 100 50 0 ∷ Draw ∷ enter 2 Offer 98 50 0 ∷ Draw ∷ Draw ∷ Draw ∷ enter 3 Bid 100 100 0 ∷ Draw ∷
+    enter 1 Bid 100 100 0 ∷ Draw ∷ Tick 5000 ∷ Draw ∷ enter 2 Offer 100 50 0 ∷ Draw ∷ Draw ∷ Tick 10000 ∷ Draw ∷ Draw ∷ enter 5 Offer 100 50 0 ∷ Draw ∷ Draw ∷
     change 3 3 99 50 ∷ Draw ∷ change 1 4 99 50 ∷ Draw ∷ enter 7 Bid 100 50 0 ∷ Draw ∷ enter 8 Offer 100 50 0 ∷ Draw ∷ Draw ∷
     Tick 20000 ∷ Draw ∷ Draw ∷ [])
 
@@ -45,18 +45,29 @@ twice =
     change 3 5 100 150 ∷ Draw ∷ enter 5 Offer 100 50 0 ∷ Draw ∷ Draw ∷ change 3 6 99 50 ∷ Draw ∷ enter 5 Offer 100 50 0 ∷ Draw ∷ Draw ∷
     Tick 20000 ∷ Draw ∷ Draw ∷ [])
 
+-- trader 2 has bid 1 at 99, and his bids 2 and 3 at 100 are filled whole; trader 6 is the Last Buyer
+abbrev pub whole : State
+whole =
+    after
+    (enter 2 Bid 99 50 0 ∷ Draw ∷ enter 2 Bid 100 50 0 ∷ Draw ∷ enter 2 Bid 100 50 0 ∷ Draw ∷ enter 6 Bid 100 50 0 ∷ Draw ∷
+    enter 9 Offer 100 150 0 ∷ Draw ∷ Draw ∷ Draw ∷ Draw ∷ Draw ∷ Tick 10000 ∷ Draw ∷ Draw ∷ Draw ∷ [])
+
 pub record PrivilegeExamples : Type 0 where
   -- ---- earned
 
   pub part : privilege ended 1 Bid ≡ priorityOne 1 (By 1)
-  pub whole : privilege ended 2 Bid ≡ priorityTwo 2 Free
+  pub complete : privilege ended 2 Bid ≡ priorityTwo 2 Free
   pub since : privilege ended 3 Bid ≡ priorityTwo 3 (By 6)
   pub seller : privilege ended 9 Offer ≡ priorityTwo 4 Free
   pub none : privilege ended 4 Bid ≡ None
   -- filled in part and whole: a Priority 1 alone; of several orders filled in part, the one with the earliest fill carries it
   pub both : privilege overtaken 1 Bid ≡ priorityOne 2 (By 4)
-  pub later : privilege overtaken 3 Bid ≡ priorityOne 3 (By 3)
+  pub slower : privilege overtaken 3 Bid ≡ priorityOne 3 (By 3)
   pub earliest : privilege twice 3 Bid ≡ priorityOne 3 (By 6)
+  -- filled whole twice: by the first of the fills, and no order that was entered before it carries the privilege
+  pub firstly : privilege whole 2 Bid ≡ priorityTwo 1 Free
+  -- a fill of an earlier session earns nothing in the next
+  pub past : privilege (run tenYears secondSession (Tick 50000 ∷ Draw ∷ Draw ∷ [])) 1 Bid ≡ None
 
   -- ---- ranked
 
@@ -68,6 +79,12 @@ pub record PrivilegeExamples : Type 0 where
   -- by the number of the fill that earned it, and not by when the order joined the queue
   pub queue : answers tenYears overtaken (enter 5 Offer 99 50 0 ∷ Draw ∷ Draw ∷ []) ≡
       (Entered 9 ∷ filled 20000 99 50 4 0 9 0 ∷ quiet 20000 ∷ [])
+  -- a fill in the FBS Period moves nobody: trader 6 stays the Last Buyer
+  pub unmoved : answers tenYears ended
+      (enter 8 Offer 100 50 0 ∷ Draw ∷ Draw ∷ enter 1 Bid 100 50 0 ∷ Draw ∷ enter 6 Bid 100 50 0 ∷ Draw ∷ enter 8 Offer 100 50 0 ∷
+      Draw ∷ Draw ∷ []) ≡
+      (Entered 8 ∷ filled 10000 100 50 1 0 8 0 ∷ quiet 10000 ∷ Entered 9 ∷ quiet 10000 ∷ Entered 10 ∷ quiet 10000 ∷ Entered 11 ∷
+      filled 10000 100 50 10 0 11 0 ∷ quiet 10000 ∷ [])
 
   -- ---- carried
 

@@ -67,7 +67,8 @@ pub record RefusalExamples : Type 0 where
       (refused NotQuiet ∷ refused NotQuiet ∷ refused NotQuiet ∷ refused NotQuiet ∷ [])
   pub time : answers tenYears (after (Tick 5 ∷ Draw ∷ [])) (Tick 4 ∷ Tick 1000000000001 ∷ Tick 5 ∷ Draw ∷ Tick 1000000000000 ∷ []) ≡
       (refused Time ∷ refused Time ∷ Done ∷ quiet 5 ∷ Done ∷ [])
-  pub trader : answers tenYears opened (enter 0 Bid 100 50 0 ∷ enter 129 Bid 100 50 0 ∷ change 0 1 100 50 ∷ cancel 129 1 ∷ enter 128 Bid 100 50 0 ∷ []) ≡
+  pub trader : answers tenYears opened
+      (enter 0 Bid 100 50 0 ∷ enter 129 Bid 100 50 0 ∷ change 0 1 100 50 ∷ cancel 129 1 ∷ enter 128 Bid 100 50 0 ∷ []) ≡
       (refused Trader ∷ refused Trader ∷ refused Trader ∷ refused Trader ∷ Entered 1 ∷ [])
   pub unknown : answers tenYears begun (cancel 2 1 ∷ cancel 1 3 ∷ change 2 1 100 50 ∷ change 2 2 100 50 ∷ cancel 1 1 ∷ []) ≡
       (refused Unknown ∷ refused Unknown ∷ refused Unknown ∷ refused Unknown ∷ Done ∷ [])
@@ -75,17 +76,20 @@ pub record RefusalExamples : Type 0 where
       (tried 1 Bid (pos 1000001) 50 None ∷ tried 1 Bid (negsuc 1000000) 50 None ∷ tried 1 Bid (negsuc 999999) 50 None ∷ Draw ∷
       tried 2 Offer (pos 1000000) 50 None ∷ []) ≡
       (refused Price ∷ refused Price ∷ Entered 1 ∷ quiet 0 ∷ Entered 2 ∷ [])
-  pub size : answers tenYears opened (enter 1 Bid 100 0 50 ∷ enter 1 Bid 100 50 25 ∷ enter 1 Bid 100 50 1000050 ∷ enter 1 Bid 100 50 1000000 ∷ []) ≡
+  pub size : answers tenYears opened
+      (enter 1 Bid 100 0 50 ∷ enter 1 Bid 100 50 25 ∷ enter 1 Bid 100 50 1000050 ∷ enter 1 Bid 100 50 1000000 ∷ []) ≡
       (refused Size ∷ refused Size ∷ refused Size ∷ Entered 1 ∷ [])
   pub end : answers tenYears (after (Tick 5 ∷ Draw ∷ []))
       (tried 1 Bid (pos 100) 50 (Some 5) ∷ tried 1 Bid (pos 100) 50 (Some 1000000000001) ∷ tried 1 Bid (pos 100) 50 (Some 6) ∷ []) ≡
       (refused End ∷ refused End ∷ Entered 1 ∷ [])
   -- equal prices meet; in a session an entry counts at the price to which it is re-priced
-  pub own : answers tenYears (after (enter 1 Bid 100 50 0 ∷ Draw ∷ [])) (enter 1 Offer 100 50 0 ∷ enter 1 Offer 101 50 0 ∷ Draw ∷ change 1 2 100 50 ∷ []) ≡
+  pub own : answers tenYears (after (enter 1 Bid 100 50 0 ∷ Draw ∷ []))
+      (enter 1 Offer 100 50 0 ∷ enter 1 Offer 101 50 0 ∷ Draw ∷ change 1 2 100 50 ∷ []) ≡
       (refused Own ∷ Entered 2 ∷ quiet 0 ∷ refused Own ∷ [])
   pub repriced : answers tenYears begun (enter 4 Offer 101 50 0 ∷ Draw ∷ enter 4 Bid 102 50 0 ∷ Draw ∷ []) ≡
       (Entered 3 ∷ quiet 0 ∷ Entered 4 ∷ quiet 0 ∷ [])
-  pub room : answers (rooms 1 1 0) narrow (enter 3 Bid 90 50 0 ∷ enter 3 Offer 110 50 0 ∷ cancel 2 2 ∷ Draw ∷ tried 3 Bid (pos 90) 50 (Some 9) ∷ enter 3 Bid 90 50 0 ∷ []) ≡
+  pub room : answers (rooms 1 1 0) narrow
+      (enter 3 Bid 90 50 0 ∷ enter 3 Offer 110 50 0 ∷ cancel 2 2 ∷ Draw ∷ tried 3 Bid (pos 90) 50 (Some 9) ∷ enter 3 Bid 90 50 0 ∷ []) ≡
       (Refused (Line Full) ∷ Refused (Line Full) ∷ Done ∷ quiet 0 ∷ Refused (Line Full) ∷ Entered 3 ∷ [])
 
   -- the first test that an entry and a change fail
@@ -94,7 +98,8 @@ pub record RefusalExamples : Type 0 where
       tried 1 Bid (pos 100) 50 (Some 0) ∷ tried 1 Bid (pos 100) 50 (Some 9) ∷ tried 1 Bid (pos 99) 50 (Some 9) ∷ []) ≡
       (refused Trader ∷ refused Price ∷ refused Size ∷ refused End ∷ refused Own ∷ Refused (Line Full) ∷ [])
   pub firstOfChange : answers tenYears offered
-      (change 0 9 2000000 25 ∷ change 1 9 2000000 25 ∷ change 1 1 2000000 25 ∷ change 1 1 101 25 ∷ change 1 1 101 50 ∷ change 1 3 100 50 ∷ change 1 1 100 50 ∷ []) ≡
+      (change 0 9 2000000 25 ∷ change 1 9 2000000 25 ∷ change 1 1 2000000 25 ∷ change 1 1 101 25 ∷ change 1 1 101 50 ∷
+      change 1 3 100 50 ∷ change 1 1 100 50 ∷ []) ≡
       (refused Trader ∷ refused Unknown ∷ refused Price ∷ refused Size ∷ refused Better ∷ refused Own ∷ Done ∷ [])
 
   -- so many entries and changes, and so many live orders; the former is told before the latter, and that before a full line

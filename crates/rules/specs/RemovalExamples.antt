@@ -11,7 +11,7 @@ use Rattle.market.specs.declared.call.Call.{Call}
 use Rattle.market.specs.declared.call.Call.the-variants.{Tick, Draw}
 use Rattle.market.specs.declared.answer.Answer.the-variants.{Entered, Done}
 use Rattle.rules.specs.Calls.{answers, opened}
-use Rattle.rules.specs.Samples.{tenYears, enterAs, enter, quiet, filled, session, rolling, fbs, removed, after, privilege, priorityOne}
+use Rattle.rules.specs.Samples.{tenYears, enterAs, enter, change, quiet, filled, session, rolling, fbs, removed, after, privilege, priorityOne}
 
 -- a FaK bid is filled in part in a session; other orders end at 10,000, one at 9,000; the time reaches 10,000
 abbrev pub expiring : List Call
@@ -37,6 +37,11 @@ pub record RemovalExamples : Type 0 where
       Draw ∷ Draw ∷ Draw ∷ Tick 10000 ∷ Draw ∷ Draw ∷ Draw ∷ Draw ∷ Draw ∷ []) ≡
       (Entered 1 ∷ quiet 0 ∷ Entered 2 ∷ quiet 0 ∷ Entered 3 ∷ session 0 100 1 ∷ filled 0 100 50 1 50 3 50 ∷ filled 0 100 50 2 50 3 0 ∷
       quiet 0 ∷ Done ∷ rolling 10000 ∷ fbs 10000 ∷ removed 10000 1 50 Killed ∷ removed 10000 2 50 Killed ∷ quiet 10000 ∷ [])
+  -- also after a change
+  pub changed : answers tenYears
+      (after (enterAs 1 Bid FaK (pos 100) 100 0 None ∷ Draw ∷ enter 2 Offer 100 50 0 ∷ Draw ∷ Draw ∷ Draw ∷ []))
+      (change 1 1 100 50 ∷ Draw ∷ Tick 10000 ∷ Draw ∷ Draw ∷ Draw ∷ Draw ∷ []) ≡
+      (Done ∷ quiet 0 ∷ Done ∷ rolling 10000 ∷ fbs 10000 ∷ removed 10000 1 50 Killed ∷ quiet 10000 ∷ [])
 
   -- the earliest moment first; at one moment the phases' ends, then what they bring about, then end times by order number
   pub moment : answers tenYears opened expiring ≡

@@ -15,7 +15,7 @@ use Rattle.market.specs.declared.state.Privilege.{Privilege}
 use Rattle.market.specs.declared.record.Cause.{Cause}
 use Rattle.market.specs.declared.record.Record.the-variants.{Quiet, Fill, Session, Rolling, Fbs, Open, Removal}
 use Rattle.market.specs.declared.call.Call.{Call}
-use Rattle.market.specs.declared.call.Call.the-variants.{Entry, Change, Cancel, Draw}
+use Rattle.market.specs.declared.call.Call.the-variants.{Entry, Change, Cancel, Tick, Draw}
 use Rattle.market.specs.declared.refusal.BookFault.{BookFault}
 use Rattle.market.specs.declared.refusal.Refusal.the-variants.{Book}
 use Rattle.market.specs.declared.answer.Answer.{Answer}
@@ -101,6 +101,12 @@ after cs = run tenYears opened cs
 -- bid 1 with a reserve and offer 2 that meets it, drawn to quiet
 abbrev pub begun : State
 begun = after (enter 1 Bid 100 50 100 ∷ Draw ∷ enter 2 Offer 98 50 0 ∷ Draw ∷ Draw ∷ Draw ∷ [])
+
+-- after that session, which had an Aggressive Owner, bid 3 and offer 4 begin another at 101, in which bid 1 has no part
+abbrev pub secondSession : State
+secondSession =
+    run tenYears begun
+    (Tick 30000 ∷ Draw ∷ Draw ∷ Draw ∷ Draw ∷ enter 3 Bid 101 100 0 ∷ Draw ∷ enter 4 Offer 101 50 0 ∷ Draw ∷ Draw ∷ Draw ∷ [])
 
 -- the numbers and prices of the live orders
 abbrev pub prices : State → List (ℕ × ℤ)

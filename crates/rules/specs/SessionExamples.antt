@@ -1,5 +1,5 @@
 -- Examples of sessions: who trades, at what price, and how long the phases last. Assumes nothing.
-use mathlib.Core.Path.{_≡_}
+use mathlib.Core.Path.{_≡_, refl}
 use mathlib.Core.List.{[], _∷_}
 use Prim.Native.Nat.{ℕ}
 use lib.IntN.{pos}
@@ -7,13 +7,23 @@ use Rattle.market.specs.declared.order.Side.the-variants.{Bid, Offer}
 use Rattle.market.specs.declared.call.Call.the-variants.{Tick, Draw}
 use Rattle.market.specs.declared.answer.Answer.the-variants.{Entered, Done}
 use Rattle.rules.specs.Base.{each}
-use Rattle.rules.specs.Board.{State}
-use Rattle.rules.specs.Calls.{answers, opened}
-use Rattle.rules.specs.Samples.{tenYears, enter, change, rewrite, quiet, filled, session, rolling, fbs, reopened, after, begun, prices}
+use Rattle.rules.specs.Board.{Opening, State}
+use Rattle.rules.specs.Calls.{run, answers, opened}
+use Rattle.rules.specs.Samples.{tenYears, enter, change, rewrite, quiet, filled, session, rolling, fbs, reopened, after, begun, secondSession, prices}
 
 -- prior orders 1, of the Passive Owner, and 2; the first is filled in part, and the tape is quiet
 abbrev pub priors : State
 priors = after (enter 1 Bid 100 150 0 ∷ Draw ∷ enter 2 Bid 100 50 0 ∷ Draw ∷ enter 3 Offer 100 50 0 ∷ Draw ∷ Draw ∷ Draw ∷ [])
+
+-- ten years, with a short Rolling phase
+abbrev pub short : Opening
+short =
+    record {
+      settings = record { tenor = 10; timed = 10000; rolling = 1000; fbs = 8000; made = refl };
+      bids = 128;
+      offers = 128;
+      ends = 128;
+    }
 
 pub record SessionExamples : Type 0 where
   -- the trigger's rest stands at the session's price, with its stamp
@@ -21,11 +31,25 @@ pub record SessionExamples : Type 0 where
   pub stamped : each {B = ℕ × ℕ} (λ o. (o .number, o .stamp))
       (after (enter 1 Bid 100 50 0 ∷ Draw ∷ enter 2 Offer 98 100 0 ∷ Draw ∷ Draw ∷ []) .board .orders) ≡ ((2, 2) ∷ [])
 
+  -- the passive order is the best, and an order behind its price is not prior
+  pub passive : answers tenYears opened
+      (enter 1 Bid 99 50 0 ∷ Draw ∷ enter 2 Bid 100 50 0 ∷ Draw ∷ enter 3 Offer 98 100 0 ∷ Draw ∷ Draw ∷ Draw ∷ []) ≡
+      (Entered 1 ∷ quiet 0 ∷ Entered 2 ∷ quiet 0 ∷ Entered 3 ∷ session 0 100 2 ∷ filled 0 100 50 2 0 3 50 ∷ quiet 0 ∷ [])
+  -- a change that makes prices meet is the trigger
+  pub changed : answers tenYears opened
+      (enter 1 Bid 99 50 0 ∷ Draw ∷ enter 2 Offer 100 50 0 ∷ Draw ∷ change 1 1 101 50 ∷ Draw ∷ Draw ∷ Draw ∷ []) ≡
+      (Entered 1 ∷ quiet 0 ∷ Entered 2 ∷ quiet 0 ∷ Done ∷ session 0 100 2 ∷ filled 0 100 50 1 0 2 0 ∷ quiet 0 ∷ [])
+
   -- Rolling ends a period after the last fill, be that in Timed
   pub rolls : answers tenYears begun
       (Tick 3000 ∷ Draw ∷ enter 2 Offer 100 50 0 ∷ Draw ∷ Draw ∷ Tick 12999 ∷ Draw ∷ Draw ∷ Tick 13000 ∷ Draw ∷ Draw ∷ []) ≡
       (Done ∷ quiet 3000 ∷ Entered 3 ∷ filled 3000 100 50 1 50 3 0 ∷ quiet 3000 ∷ Done ∷ rolling 10000 ∷ quiet 12999 ∷ Done ∷
       fbs 13000 ∷ quiet 13000 ∷ [])
+
+  -- but not before it began
+  pub late : answers short (run short opened (enter 1 Bid 100 50 0 ∷ Draw ∷ enter 2 Offer 100 50 0 ∷ Draw ∷ Draw ∷ Draw ∷ []))
+      (Tick 10000 ∷ Draw ∷ Draw ∷ Draw ∷ []) ≡
+      (Done ∷ rolling 10000 ∷ fbs 10000 ∷ quiet 10000 ∷ [])
 
   -- a restocked order is not prior: the Passive Owner has no order, so that bid 2 trades no more
   pub restocked : answers tenYears opened
@@ -54,6 +78,10 @@ pub record SessionExamples : Type 0 where
       enter 5 Bid 100 50 0 ∷ Draw ∷ enter 4 Offer 100 50 0 ∷ Draw ∷ enter 1 Bid 100 50 0 ∷ Draw ∷ Draw ∷ []) ≡
       (Entered 1 ∷ quiet 0 ∷ Entered 2 ∷ session 0 100 1 ∷ filled 0 100 50 1 50 2 0 ∷ quiet 0 ∷ Entered 3 ∷ filled 0 100 50 1 0 3 0 ∷
       quiet 0 ∷ Entered 4 ∷ quiet 0 ∷ Entered 5 ∷ quiet 0 ∷ Entered 6 ∷ filled 0 100 50 6 0 5 0 ∷ quiet 0 ∷ [])
+
+  -- nor does the Aggressive Owner of an earlier session own the next
+  pub anew : answers tenYears secondSession (enter 5 Offer 101 50 0 ∷ Draw ∷ Draw ∷ []) ≡
+      (Entered 5 ∷ filled 30000 101 50 3 0 5 0 ∷ quiet 30000 ∷ [])
 
   -- in the FBS Period the fill is at the price of the order that is not incoming; it begins no session and does not move the
   -- period's end
