@@ -18,7 +18,7 @@ use Rattle.laws.proofs.Fairly.{fair}
 use Rattle.laws.proofs.Hiding.{hidden}
 use Rattle.invariants.specs.Prompt.{PromptRun}
 use Rattle.invariants.proofs.Prompts.{prompt}
-use Rattle.book.specs.Lawful.{FairRun, lesson, lessons, HiddenRun, Lawful}
+use Rattle.lawful.specs.Lawful.{FairRun, lesson, lessons, HiddenRun, Lawful}
 
 -- ---- runs in two parts
 

@@ -53,3 +53,7 @@ pub record Lawful (k : Opening) (earlier calls : List Call) (told : List Answer)
   pub fair : FairRun k earlier calls told
   pub hidden : HiddenRun k earlier calls told
   pub prompt : PromptRun k (earlier ++ calls) (answers k opened earlier ++ told)
+
+-- so it is of every run, in any two parts
+abbrev pub EveryRunIsLawful : Type 0
+EveryRunIsLawful = (k : Opening) (earlier calls : List Call) → Lawful k earlier calls (answers k (run k opened earlier) calls)
