@@ -59,11 +59,11 @@ unfolding answers
 fairly k earlier calls before after toldBefore toldAfter r is told same =
     let S = run k opened earlier in
     let split : answers k S calls ≡ answers k S before ++ (step k (run k S before) Draw .0 ∷ answers k (step k (run k S before) Draw .1) after) =
-          ap (answers k S) is ∙ answers-append k S before (Draw ∷ after) in
+    ap (answers k S) is ∙ answers-append k S before (Draw ∷ after) in
     let here : Drawn r ≡ step k (run k S before) Draw .0 =
-          behind toldBefore (answers k S before) (Drawn r) (step k (run k S before) Draw .0) toldAfter _ (sym told ∙ split) (same ∙ sym (answers-length k S before)) in
+    behind toldBefore (answers k S before) (Drawn r) (step k (run k S before) Draw .0) toldAfter _ (sym told ∙ split) (same ∙ sym (answers-length k S before)) in
     let there : step k (run k opened (earlier ++ before)) Draw .0 ≡ Drawn r =
-          ap (λ (X : State). step k X Draw .0) (run-append k opened earlier before) ∙ sym here in
+    ap (λ (X : State). step k X Draw .0) (run-append k opened earlier before) ∙ sym here in
     fair k (earlier ++ before) r there
 
 -- ---- hidden

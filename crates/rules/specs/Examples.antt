@@ -43,11 +43,9 @@ pub record Examples : Type 0 where
   pub better : answers tenYears begun (enter 4 Bid 101 50 0 ∷ Draw ∷ change 4 3 101 50 ∷ []) ≡ (Entered 3 ∷ quiet 0 ∷ refused Better ∷ [])
   pub sizes : answers tenYears opened (enter 1 Bid 100 25 0 ∷ enter 1 Bid 100 1000050 0 ∷ enter 1 Bid 100 1000000 0 ∷ []) ≡
       (refused Size ∷ refused Size ∷ Entered 1 ∷ [])
-
   -- the summary counts the first eight orders at the best price
   pub absent : summary (opened .board) Bid ≡ None
   pub eight : summary (after nineBids .board) Bid ≡ Some (record { price = pos 100; size = 400 })
-
   pub sessions : SessionExamples
   pub privileges : PrivilegeExamples
   pub removals : RemovalExamples

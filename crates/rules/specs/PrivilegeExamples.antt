@@ -68,7 +68,6 @@ pub record PrivilegeExamples : Type 0 where
   pub firstly : privilege whole 2 Bid ≡ priorityTwo 1 Free
   -- a fill of an earlier session earns nothing in the next
   pub past : privilege (run tenYears secondSession (Tick 50000 ∷ Draw ∷ Draw ∷ [])) 1 Bid ≡ None
-
   -- ---- ranked
 
   -- the Last Buyer's, then Priority 1, then Priority 2, the newest first, then the rest
@@ -85,7 +84,6 @@ pub record PrivilegeExamples : Type 0 where
       Draw ∷ Draw ∷ []) ≡
       (Entered 8 ∷ filled 10000 100 50 1 0 8 0 ∷ quiet 10000 ∷ Entered 9 ∷ quiet 10000 ∷ Entered 10 ∷ quiet 10000 ∷ Entered 11 ∷
       filled 10000 100 50 10 0 11 0 ∷ quiet 10000 ∷ [])
-
   -- ---- carried
 
   -- a Priority 1 is free when its order is cancelled; a better entry neither takes nor forfeits it; the next at the price or worse takes it
@@ -99,7 +97,6 @@ pub record PrivilegeExamples : Type 0 where
   pub immediate : privilege (then (enterAs 2 Bid FaKI (pos 100) 50 0 None ∷ [])) 2 Bid ≡ priorityTwo 2 (By 8)
   -- re-priced to the session's price or worse, an order keeps it
   pub kept : privilege (then (change 1 1 99 50 ∷ Draw ∷ [])) 1 Bid ≡ priorityOne 1 (By 1)
-
   -- ---- lost
 
   pub cancelled : privilege (then (cancel 3 6 ∷ Draw ∷ enter 3 Bid 100 50 0 ∷ Draw ∷ [])) 3 Bid ≡ priorityTwo 3 Gone

@@ -91,7 +91,6 @@ pub record RefusalExamples : Type 0 where
   pub room : answers (rooms 1 1 0) narrow
       (enter 3 Bid 90 50 0 ∷ enter 3 Offer 110 50 0 ∷ cancel 2 2 ∷ Draw ∷ tried 3 Bid (pos 90) 50 (Some 9) ∷ enter 3 Bid 90 50 0 ∷ []) ≡
       (Refused (Line Full) ∷ Refused (Line Full) ∷ Done ∷ quiet 0 ∷ Refused (Line Full) ∷ Entered 3 ∷ [])
-
   -- the first test that an entry and a change fail
   pub firstOfEntry : answers (rooms 1 1 0) narrow
       (tried 0 Bid (pos 1000001) 25 (Some 0) ∷ tried 1 Bid (pos 1000001) 25 (Some 0) ∷ tried 1 Bid (pos 100) 25 (Some 0) ∷
@@ -101,7 +100,6 @@ pub record RefusalExamples : Type 0 where
       (change 0 9 2000000 25 ∷ change 1 9 2000000 25 ∷ change 1 1 2000000 25 ∷ change 1 1 101 25 ∷ change 1 1 101 50 ∷
       change 1 3 100 50 ∷ change 1 1 100 50 ∷ []) ≡
       (refused Trader ∷ refused Unknown ∷ refused Price ∷ refused Size ∷ refused Better ∷ refused Own ∷ Done ∷ [])
-
   -- so many entries and changes, and so many live orders; the former is told before the latter, and that before a full line
   pub writes : answers tenYears (laden 1 1000000) (enter 2 Bid 90 50 0 ∷ change 1 1 100 50 ∷ cancel 1 1 ∷ []) ≡
       (refused Writes ∷ refused Writes ∷ Done ∷ [])

@@ -27,7 +27,6 @@ pub record RemovalExamples : Type 0 where
   pub rest : answers tenYears opened
       (enter 1 Bid 100 50 0 ∷ Draw ∷ enterAs 2 Offer FaKI (pos 100) 100 0 None ∷ Draw ∷ Draw ∷ Draw ∷ Draw ∷ []) ≡
       (Entered 1 ∷ quiet 0 ∷ Entered 2 ∷ session 0 100 1 ∷ filled 0 100 50 1 0 2 50 ∷ removed 0 2 50 AtOnce ∷ quiet 0 ∷ [])
-
   -- a FaK order that was never filled stays
   pub unfilled : answers tenYears opened (enterAs 1 Bid FaK (pos 100) 50 0 None ∷ Draw ∷ Tick 50000 ∷ Draw ∷ []) ≡
       (Entered 1 ∷ quiet 0 ∷ Done ∷ quiet 50000 ∷ [])
@@ -42,7 +41,6 @@ pub record RemovalExamples : Type 0 where
       (after (enterAs 1 Bid FaK (pos 100) 100 0 None ∷ Draw ∷ enter 2 Offer 100 50 0 ∷ Draw ∷ Draw ∷ Draw ∷ []))
       (change 1 1 100 50 ∷ Draw ∷ Tick 10000 ∷ Draw ∷ Draw ∷ Draw ∷ Draw ∷ []) ≡
       (Done ∷ quiet 0 ∷ Done ∷ rolling 10000 ∷ fbs 10000 ∷ removed 10000 1 50 Killed ∷ quiet 10000 ∷ [])
-
   -- the earliest moment first; at one moment the phases' ends, then what they bring about, then end times by order number
   pub moment : answers tenYears opened expiring ≡
       (Entered 1 ∷ quiet 0 ∷ Entered 2 ∷ session 0 100 1 ∷ filled 0 100 50 1 50 2 0 ∷ quiet 0 ∷ Entered 3 ∷ quiet 0 ∷ Entered 4 ∷
