@@ -1,0 +1,4 @@
+//! Whether a call is accepted.
+
+pub mod calls;
+pub mod checks;

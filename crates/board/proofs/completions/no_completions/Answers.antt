@@ -1,0 +1,7 @@
+use mathlib.Core.Path.{refl}
+use Rattle.rules.specs.Board.{rows}
+use Rattle.board.proofs.completions.no_completions.Needs as need
+
+pub returns : need.returns
+unfolding rows
+returns c = refl

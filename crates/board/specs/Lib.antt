@@ -1,0 +1,4 @@
+pub mod EndTimes
+pub mod Entitlements
+pub mod Memory
+pub mod Positions

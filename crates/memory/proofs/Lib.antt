@@ -1,0 +1,4 @@
+pub mod Bounds
+pub mod Kept
+pub mod Queues
+pub mod Showing

@@ -1,0 +1,10 @@
+pub mod Along
+pub mod Ending
+pub mod Heads
+pub mod Held
+pub mod Kept
+pub mod Shown
+pub mod Sides
+pub mod Sized
+pub mod Totals
+pub mod Walked

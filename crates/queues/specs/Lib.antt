@@ -1,0 +1,4 @@
+pub mod Changes
+pub mod Entries
+pub mod Lists
+pub mod Walks
