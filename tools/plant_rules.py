@@ -76,8 +76,6 @@ BUGS = [
      'buyer = cond (inSession phase) (Some (bid .trader)) (s .buyer);', 'buyer = Some (bid .trader);'),
     ('a fill outside a session is at the price of the incoming order', 'Fills',
      '(offer .price) (bid .price)', '(bid .price) (offer .price)'),
-    ('a fill in a session is at the price of the bid', 'Fills',
-     'fillPrice true b bid offer = b .session .price', 'fillPrice true b bid offer = bid .price'),
     ('an order that was filled whole frees its Priority 1', 'Fills',
      'privilegesAfter leaves o ps = adjust (lost (o .number))',
      'privilegesAfter leaves o ps = adjust (Rattle.rules.specs.Privileges.freed (o .number))'),

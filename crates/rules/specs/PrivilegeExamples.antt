@@ -11,7 +11,7 @@ use Rattle.market.specs.declared.call.Call.the-variants.{Tick, Draw}
 use Rattle.market.specs.declared.answer.Answer.the-variants.{Entered}
 use Rattle.rules.specs.Board.{State}
 use Rattle.rules.specs.Calls.{run, answers}
-use Rattle.rules.specs.Samples.{tenYears, enterAs, enter, change, cancel, quiet, filled, after, secondSession, privilege, priorityOne, priorityTwo}
+use Rattle.rules.specs.Samples.{tenYears, enterAs, enter, change, cancel, quiet, filled, after, begun, secondSession, inRolling, privilege, priorityOne, priorityTwo}
 
 -- fills 1 to 4 are of bids 1 to 4 with offer 5. Bid 1 of trader 1 restocks and is filled in part; traders 2, 3 and 6 are filled whole,
 -- and trader 6 is the Last Buyer. Trader 3 then enters bid 6, and trader 4 bid 7; the FBS Period begins
@@ -39,11 +39,9 @@ overtaken =
 -- part of bid 5; then the FBS Period begins
 abbrev pub twice : State
 twice =
-    after
-    (enter 1 Bid 100 50 0 ∷ Draw ∷ enter 2 Offer 100 50 0 ∷ Draw ∷ Draw ∷ Draw ∷ Tick 5000 ∷ Draw ∷ enter 1 Bid 100 50 0 ∷ Draw ∷
-    enter 2 Offer 100 50 0 ∷ Draw ∷ Draw ∷ Tick 10000 ∷ Draw ∷ Draw ∷ enter 3 Bid 100 100 0 ∷ Draw ∷ enter 3 Bid 100 100 0 ∷ Draw ∷
-    change 3 5 100 150 ∷ Draw ∷ enter 5 Offer 100 50 0 ∷ Draw ∷ Draw ∷ change 3 6 99 50 ∷ Draw ∷ enter 5 Offer 100 50 0 ∷ Draw ∷ Draw ∷
-    Tick 20000 ∷ Draw ∷ Draw ∷ [])
+    run tenYears inRolling
+    (enter 3 Bid 100 100 0 ∷ Draw ∷ enter 3 Bid 100 100 0 ∷ Draw ∷ change 3 5 100 150 ∷ Draw ∷ enter 5 Offer 100 50 0 ∷ Draw ∷ Draw ∷
+    change 3 6 99 50 ∷ Draw ∷ enter 5 Offer 100 50 0 ∷ Draw ∷ Draw ∷ Tick 20000 ∷ Draw ∷ Draw ∷ [])
 
 -- trader 2 has bid 1 at 99, and his bids 2 and 3 at 100 are filled whole; trader 6 is the Last Buyer
 abbrev pub whole : State
@@ -64,6 +62,8 @@ pub record PrivilegeExamples : Type 0 where
   pub both : privilege overtaken 1 Bid ≡ priorityOne 2 (By 4)
   pub slower : privilege overtaken 3 Bid ≡ priorityOne 3 (By 3)
   pub earliest : privilege twice 3 Bid ≡ priorityOne 3 (By 6)
+  -- filled in part twice: by the first of the fills
+  pub again : privilege (run tenYears begun (enter 2 Offer 100 50 0 ∷ Draw ∷ Draw ∷ Tick 10000 ∷ Draw ∷ Draw ∷ [])) 1 Bid ≡ priorityOne 1 (By 1)
   -- filled whole twice: by the first of the fills, and no order that was entered before it carries the privilege
   pub firstly : privilege whole 2 Bid ≡ priorityTwo 1 Free
   -- a fill of an earlier session earns nothing in the next

@@ -108,6 +108,13 @@ secondSession =
     run tenYears begun
     (Tick 30000 ∷ Draw ∷ Draw ∷ Draw ∷ Draw ∷ enter 3 Bid 101 100 0 ∷ Draw ∷ enter 4 Offer 101 50 0 ∷ Draw ∷ Draw ∷ Draw ∷ [])
 
+-- a session at 100 with fills 1 and 2, the latter at 5,000; all its orders are filled whole, and Rolling has begun
+abbrev pub inRolling : State
+inRolling =
+    after
+    (enter 1 Bid 100 50 0 ∷ Draw ∷ enter 2 Offer 100 50 0 ∷ Draw ∷ Draw ∷ Draw ∷ Tick 5000 ∷ Draw ∷ enter 1 Bid 100 50 0 ∷ Draw ∷
+    enter 2 Offer 100 50 0 ∷ Draw ∷ Draw ∷ Tick 10000 ∷ Draw ∷ Draw ∷ [])
+
 -- the numbers and prices of the live orders
 abbrev pub prices : State → List (ℕ × ℤ)
 prices S = each (λ o. (o .number, o .price)) (S .board .orders)

@@ -1,4 +1,4 @@
-//! The rules of the book, as definitions in specs/, and the laws above them.
+//! The rules of the book, as definitions in specs/, with worked examples.
 ghost use Rattle.rules.specs.Examples.{Examples};
 
 /// The worked examples hold of the rules.
