@@ -52,13 +52,11 @@ pub record SessionExamples : Type 0 where
       (enter 1 Bid 100 50 0 ∷ Draw ∷ enter 2 Bid 100 50 50 ∷ Draw ∷ enter 3 Offer 100 150 0 ∷ Draw ∷ Draw ∷ Draw ∷ Draw ∷ []) ≡
       (Entered 1 ∷ quiet 0 ∷ Entered 2 ∷ quiet 0 ∷ Entered 3 ∷ session 0 100 1 ∷ filled 0 100 50 1 0 3 100 ∷
       filled 0 100 50 2 50 3 50 ∷ quiet 0 ∷ [])
-
   -- it goes to the end of the queue
   pub behind : answers tenYears inRolling
       (enter 3 Bid 100 50 50 ∷ Draw ∷ enter 4 Bid 100 50 0 ∷ Draw ∷ enter 5 Offer 100 100 0 ∷ Draw ∷ Draw ∷ Draw ∷ []) ≡
       (Entered 5 ∷ quiet 10000 ∷ Entered 6 ∷ quiet 10000 ∷ Entered 7 ∷ filled 10000 100 50 5 50 7 50 ∷ filled 10000 100 50 6 0 7 0 ∷
       quiet 10000 ∷ [])
-
   -- a restock brings the smaller of reserve and shown size, which is the displayed size last written
   pub smaller : answers tenYears opened (enter 1 Bid 100 100 50 ∷ Draw ∷ enter 2 Offer 100 150 0 ∷ Draw ∷ Draw ∷ Draw ∷ Draw ∷ []) ≡
       (Entered 1 ∷ quiet 0 ∷ Entered 2 ∷ session 0 100 1 ∷ filled 0 100 100 1 50 2 50 ∷ filled 0 100 50 1 0 2 0 ∷ quiet 0 ∷ [])

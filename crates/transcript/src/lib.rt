@@ -1,0 +1,3 @@
+//! Messages and refusals in plain words.
+
+pub mod show;

@@ -1,0 +1,4 @@
+//! Messages of every kind, as a host receives and sends them.
+
+pub mod message;
+pub mod read;
