@@ -1,5 +1,7 @@
 pub mod Begun
 pub mod Boards
+pub mod Drawn
+pub mod Dues
 pub mod Plain
 pub mod Removed
 pub mod Still

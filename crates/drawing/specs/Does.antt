@@ -7,8 +7,11 @@ use Rattle.market.specs.declared.rank.BidRank.{BidRank}
 use Rattle.market.specs.declared.rank.OfferRank.{OfferRank}
 use Rattle.market.specs.declared.rank.EndTime.{EndTime}
 use Rattle.market.specs.declared.record.Record.{Record}
+use Rattle.market.specs.declared.call.Call.the-variants.{Draw}
+use Rattle.market.specs.declared.answer.Answer.the-variants.{Drawn}
 use Rattle.rules.specs.Board.{Opening, State}
 use Rattle.rules.specs.Draws.{Step, decided, recordOf, boardAfter, hiddenAfter, removedBoard}
+use Rattle.rules.specs.Calls.{step}
 use Rattle.rules.specs.Members.{In}
 use Rattle.invariants.specs.Sound.{Sound}
 use Rattle.memory.specs.declared.memory.Memory.{Memory}
@@ -30,3 +33,9 @@ module _ {B O E : Type 0} (bl : Ghosts B BidRank) (ol : Ghosts O OfferRank) (el 
   Leaves m m′ o t =
       (k : Opening) (S : State) → Sound k S → Shows bl ol el m k S → In o (S .board .orders) →
       Shows bl ol el m′ k (record { board = removedBoard (S .board) t o; hidden = S .hidden })
+
+  -- the book shows the state after a draw of the rules, and tells the record that they answer
+  abbrev pub Draws : Memory B O E → Memory B O E → Record → Type 0
+  Draws m m′ r =
+      (k : Opening) (S : State) → Sound k S → Shows bl ol el m k S →
+      Shows bl ol el m′ k (step k S Draw .1) × (Drawn r ≡ step k S Draw .0)

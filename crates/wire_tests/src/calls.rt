@@ -104,79 +104,14 @@ fn sides_and_types() -> Result<(), Fail> {
 
 /// The largest of every field, with a reference of 16 bytes.
 const LARGEST: [u8; 43] = [
-    0,
-    41,
-    1,
-    1,
-    255,
-    1,
-    2,
-    127,
-    255,
-    255,
-    255,
-    255,
-    255,
-    255,
-    255,
-    255,
-    255,
-    255,
-    255,
-    255,
-    255,
-    255,
-    255,
-    255,
-    255,
-    255,
-    255,
-    1,
-    2,
-    3,
-    4,
-    5,
-    6,
-    7,
-    8,
-    9,
-    10,
-    11,
-    12,
-    13,
-    14,
-    15,
-    255,
+    0, 41, 1, 1, 255, 1, 2, 127, 255, 255, 255, 255, 255, 255, 255, 255, 255, 255, 255, 255, 255, 255, 255, 255, 255, 255,
+    255, 1, 2, 3, 4, 5, 6, 7, 8, 9, 10, 11, 12, 13, 14, 15, 255,
 ];
 
 #[test]
 fn largest_fields() -> Result<(), Fail> {
     exact(&LARGEST)?;
-    exact(
-        &[
-            0,
-            19,
-            1,
-            2,
-            255,
-            255,
-            255,
-            255,
-            255,
-            127,
-            255,
-            255,
-            255,
-            255,
-            255,
-            255,
-            255,
-            255,
-            255,
-            255,
-            255,
-        ],
-    )?;
+    exact(&[0, 19, 1, 2, 255, 255, 255, 255, 255, 127, 255, 255, 255, 255, 255, 255, 255, 255, 255, 255, 255])?;
     exact(&[0, 7, 1, 3, 255, 255, 255, 255, 255])?;
     exact(&[0, 10, 1, 4, 255, 255, 255, 255, 255, 255, 255, 255])?;
     exact(&[0, 2, 1, 5])
@@ -199,31 +134,8 @@ fn an_entry_at_its_edges() -> Result<(), Fail> {
 
 /// The price of a change whose price has these bytes.
 fn price(a: u8, b: u8, c: u8, d: u8) -> Option<i32> {
-    let (answer, _) = read(
-        &[
-            0,
-            19,
-            1,
-            2,
-            7,
-            0,
-            0,
-            0,
-            1,
-            a,
-            b,
-            c,
-            d,
-            0,
-            0,
-            0,
-            2,
-            0,
-            0,
-            0,
-            3,
-        ],
-    );
+    let message = [0, 19, 1, 2, 7, 0, 0, 0, 1, a, b, c, d, 0, 0, 0, 2, 0, 0, 0, 3];
+    let (answer, _) = read(&message);
     match answer {
         Ok(CallMessage::Change(change)) => Some(change.price),
         _ => None,
@@ -272,30 +184,9 @@ fn calls_that_are_not_written() -> Result<(), Fail> {
         return Err(Fail::new("no entry"));
     };
     let reference = [65u8; 17];
-    unwritten(
-        &CallMessage::Entry {
-            order,
-            reference: &reference[0..16],
-        },
-        42,
-        19,
-    )?;
-    unwritten(
-        &CallMessage::Entry {
-            order,
-            reference: &reference,
-        },
-        64,
-        5,
-    )?;
+    unwritten(&CallMessage::Entry { order, reference: &reference[0..16] }, 42, 19)?;
+    unwritten(&CallMessage::Entry { order, reference: &reference }, 64, 5)?;
     let mut past = order;
     past.end = Some(0);
-    unwritten(
-        &CallMessage::Entry {
-            order: past,
-            reference: &[],
-        },
-        64,
-        13,
-    )
+    unwritten(&CallMessage::Entry { order: past, reference: &[] }, 64, 13)
 }

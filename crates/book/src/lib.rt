@@ -1,0 +1,5 @@
+//! The book of one swap, over any three lines.
+
+pub mod book;
+pub mod calls;
+pub mod play;
