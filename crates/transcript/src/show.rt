@@ -1,4 +1,5 @@
 //! Messages in plain words. A call is shown as the line that makes it.
+use market::call::OrderCancel;
 use market::call::OrderChange;
 use market::call::OrderEntry;
 use market::order::OrderType;
@@ -41,24 +42,24 @@ fn meaning(number: u8) -> &'static str {
 
 fn side_name(side: Side) -> &'static str {
     match side {
-        Side::Bid => "bid",
-        Side::Offer => "offer",
+        Side::Bid => " bid",
+        Side::Offer => " offer",
     }
 }
 
 fn type_name(kind: OrderType) -> &'static str {
     match kind {
-        OrderType::FaS => "FaS",
-        OrderType::FaK => "FaK",
-        OrderType::FaKI => "FaKI",
+        OrderType::FaS => " FaS",
+        OrderType::FaK => " FaK",
+        OrderType::FaKI => " FaKI",
     }
 }
 
 fn cause_name(cause: Cause) -> &'static str {
     match cause {
-        Cause::FaKI => "FaKI",
-        Cause::FaK => "FaK",
-        Cause::End => "end",
+        Cause::FaKI => " cause FaKI",
+        Cause::FaK => " cause FaK",
+        Cause::End => " cause end",
     }
 }
 
@@ -70,6 +71,15 @@ fn is_word(bytes: &[u8]) -> bool {
         }
     }
     true
+}
+
+/// A field behind its name.
+fn show_number<W: fmt::Write>(name: &str, n: u64, f: &mut fmt::Formatter<W>) -> fmt::Result {
+    write!(f, " {name} {n}")
+}
+
+fn show_price<W: fmt::Write>(price: i32, f: &mut fmt::Formatter<W>) -> fmt::Result {
+    write!(f, " price {price}")
 }
 
 /// A reference as a word, or else by the numbers of its bytes; an empty one is left out.
@@ -93,28 +103,32 @@ fn show_reference<W: fmt::Write>(reference: &[u8], f: &mut fmt::Formatter<W>) ->
 }
 
 fn show_entry<W: fmt::Write>(order: &OrderEntry, f: &mut fmt::Formatter<W>) -> fmt::Result {
-    let trader = order.trader;
-    let side = side_name(order.side);
-    let kind = type_name(order.kind);
-    write!(f, "entry trader {trader} {side} {kind}")?;
-    let price = order.price;
-    let displayed = order.displayed;
-    let reserve = order.reserve;
-    write!(f, " price {price} displayed {displayed} reserve {reserve}")?;
+    f.write_str("entry")?;
+    show_number("trader", u64::from(order.trader), f)?;
+    f.write_str(side_name(order.side))?;
+    f.write_str(type_name(order.kind))?;
+    show_price(order.price, f)?;
+    show_number("displayed", u64::from(order.displayed), f)?;
+    show_number("reserve", u64::from(order.reserve), f)?;
     match order.end {
-        Some(end) => write!(f, " end {end}"),
+        Some(end) => show_number("end", end, f),
         None => f.write_str(" end none"),
     }
 }
 
 fn show_change<W: fmt::Write>(change: &OrderChange, f: &mut fmt::Formatter<W>) -> fmt::Result {
-    let trader = change.trader;
-    let number = change.number;
-    write!(f, "change trader {trader} order {number}")?;
-    let price = change.price;
-    let displayed = change.displayed;
-    let reserve = change.reserve;
-    write!(f, " price {price} displayed {displayed} reserve {reserve}")
+    f.write_str("change")?;
+    show_number("trader", u64::from(change.trader), f)?;
+    show_number("order", u64::from(change.number), f)?;
+    show_price(change.price, f)?;
+    show_number("displayed", u64::from(change.displayed), f)?;
+    show_number("reserve", u64::from(change.reserve), f)
+}
+
+fn show_cancel<W: fmt::Write>(cancel: &OrderCancel, f: &mut fmt::Formatter<W>) -> fmt::Result {
+    f.write_str("cancel")?;
+    show_number("trader", u64::from(cancel.trader), f)?;
+    show_number("order", u64::from(cancel.number), f)
 }
 
 fn show_call<W: fmt::Write>(call: &CallMessage, f: &mut fmt::Formatter<W>) -> fmt::Result {
@@ -124,69 +138,78 @@ fn show_call<W: fmt::Write>(call: &CallMessage, f: &mut fmt::Formatter<W>) -> fm
             show_reference(reference, f)
         }
         CallMessage::Change(change) => show_change(&change, f),
-        CallMessage::Cancel(cancel) => {
-            let trader = cancel.trader;
-            let number = cancel.number;
-            write!(f, "cancel trader {trader} order {number}")
+        CallMessage::Cancel(cancel) => show_cancel(&cancel, f),
+        CallMessage::Tick { time } => {
+            f.write_str("tick")?;
+            show_number("time", time, f)
         }
-        CallMessage::Tick { time } => write!(f, "tick time {time}"),
         CallMessage::Draw => f.write_str("draw"),
     }
 }
 
-fn show_fill<W: fmt::Write>(time: u64, fill: &Fill, f: &mut fmt::Formatter<W>) -> fmt::Result {
-    let price = fill.price;
-    let size = fill.size;
-    write!(f, "time {time} fill price {price} size {size}")?;
-    let bid = fill.bid;
-    let left = fill.bidleft;
-    write!(f, " bid {bid} left {left}")?;
-    let offer = fill.offer;
-    let left = fill.offerleft;
-    write!(f, " offer {offer} left {left}")
+/// What every record begins with: its time and its kind.
+fn show_kind<W: fmt::Write>(time: u64, kind: &str, f: &mut fmt::Formatter<W>) -> fmt::Result {
+    write!(f, "time {time} {kind}")
+}
+
+fn show_fill<W: fmt::Write>(fill: &Fill, f: &mut fmt::Formatter<W>) -> fmt::Result {
+    show_price(fill.price, f)?;
+    show_number("size", u64::from(fill.size), f)?;
+    show_number("bid", u64::from(fill.bid), f)?;
+    show_number("left", u64::from(fill.bidleft), f)?;
+    show_number("offer", u64::from(fill.offer), f)?;
+    show_number("left", u64::from(fill.offerleft), f)
 }
 
 fn show_record<W: fmt::Write>(told: &Record, f: &mut fmt::Formatter<W>) -> fmt::Result {
     match *told {
-        Record::Quiet { time } => write!(f, "time {time} quiet"),
-        Record::Fill { time, fill } => show_fill(time, &fill, f),
+        Record::Quiet { time } => show_kind(time, "quiet", f),
+        Record::Fill { time, fill } => {
+            show_kind(time, "fill", f)?;
+            show_fill(&fill, f)
+        }
         Record::Session {
             time,
             price,
             passive,
-        } => { write!(f, "time {time} session price {price} passive {passive}") }
-        Record::Rolling { time } => write!(f, "time {time} Rolling"),
-        Record::Fbs { time } => write!(f, "time {time} FBS"),
-        Record::Open { time } => write!(f, "time {time} Open"),
+        } => {
+            show_kind(time, "session", f)?;
+            show_price(price, f)?;
+            show_number("passive", u64::from(passive), f)
+        }
+        Record::Rolling { time } => show_kind(time, "Rolling", f),
+        Record::Fbs { time } => show_kind(time, "FBS", f),
+        Record::Open { time } => show_kind(time, "Open", f),
         Record::Removal {
             time,
             number,
             displayed,
             cause,
         } => {
-            let cause = cause_name(cause);
-            write!(
-                f,
-                "time {time} removal order {number} displayed {displayed} cause {cause}"
-            )
+            show_kind(time, "removal", f)?;
+            show_number("order", u64::from(number), f)?;
+            show_number("displayed", u64::from(displayed), f)?;
+            f.write_str(cause_name(cause))
         }
     }
 }
 
 fn show_reply<W: fmt::Write>(refusal: u8, order: u32, f: &mut fmt::Formatter<W>) -> fmt::Result {
-    if refusal == 0 {
-        f.write_str("reply accepted")?;
-    } else {
-        write!(f, "reply refused {refusal}")?;
+    match refusal {
+        0 => f.write_str("reply accepted")?,
+        _ => {
+            f.write_str("reply")?;
+            show_number("refused", u64::from(refusal), f)?;
+        }
     }
     if order != 0 {
-        write!(f, " order {order}")?;
+        show_number("order", u64::from(order), f)?;
     }
     if refusal == 0 {
         return Ok(());
     }
-    let why = meaning(refusal);
-    write!(f, ": {why}")
+    f.write_str(": ")?;
+    f.write_str(meaning(refusal))
 }
 
 /// A refusal by its number, its meaning and its byte.

@@ -104,14 +104,79 @@ fn sides_and_types() -> Result<(), Fail> {
 
 /// The largest of every field, with a reference of 16 bytes.
 const LARGEST: [u8; 43] = [
-    0, 41, 1, 1, 255, 1, 2, 127, 255, 255, 255, 255, 255, 255, 255, 255, 255, 255, 255, 255, 255, 255, 255, 255, 255, 255,
-    255, 1, 2, 3, 4, 5, 6, 7, 8, 9, 10, 11, 12, 13, 14, 15, 255,
+    0,
+    41,
+    1,
+    1,
+    255,
+    1,
+    2,
+    127,
+    255,
+    255,
+    255,
+    255,
+    255,
+    255,
+    255,
+    255,
+    255,
+    255,
+    255,
+    255,
+    255,
+    255,
+    255,
+    255,
+    255,
+    255,
+    255,
+    1,
+    2,
+    3,
+    4,
+    5,
+    6,
+    7,
+    8,
+    9,
+    10,
+    11,
+    12,
+    13,
+    14,
+    15,
+    255,
 ];
 
 #[test]
 fn largest_fields() -> Result<(), Fail> {
     exact(&LARGEST)?;
-    exact(&[0, 19, 1, 2, 255, 255, 255, 255, 255, 127, 255, 255, 255, 255, 255, 255, 255, 255, 255, 255, 255])?;
+    exact(
+        &[
+            0,
+            19,
+            1,
+            2,
+            255,
+            255,
+            255,
+            255,
+            255,
+            127,
+            255,
+            255,
+            255,
+            255,
+            255,
+            255,
+            255,
+            255,
+            255,
+            255,
+            255,
+        ],
+    )?;
     exact(&[0, 7, 1, 3, 255, 255, 255, 255, 255])?;
     exact(&[0, 10, 1, 4, 255, 255, 255, 255, 255, 255, 255, 255])?;
     exact(&[0, 2, 1, 5])
@@ -134,7 +199,29 @@ fn an_entry_at_its_edges() -> Result<(), Fail> {
 
 /// The price of a change whose price has these bytes.
 fn price(a: u8, b: u8, c: u8, d: u8) -> Option<i32> {
-    let message = [0, 19, 1, 2, 7, 0, 0, 0, 1, a, b, c, d, 0, 0, 0, 2, 0, 0, 0, 3];
+    let message = [
+        0,
+        19,
+        1,
+        2,
+        7,
+        0,
+        0,
+        0,
+        1,
+        a,
+        b,
+        c,
+        d,
+        0,
+        0,
+        0,
+        2,
+        0,
+        0,
+        0,
+        3,
+    ];
     let (answer, _) = read(&message);
     match answer {
         Ok(CallMessage::Change(change)) => Some(change.price),
@@ -157,36 +244,4 @@ fn what_follows_is_not_looked_at() -> Result<(), Fail> {
     let (answer, taken) = read(&[0, 2, 1, 5, 0, 9]);
     check(taken == 4)?;
     check(matches!(answer, Ok(CallMessage::Draw)))
-}
-
-/// Writing the call into a buffer of so many bytes is refused with this number, and leaves the buffer.
-fn unwritten(call: &CallMessage, room: usize, number: u8) -> Result<(), Fail> {
-    check(room <= 64)?;
-    let mut buf = [238u8; 64];
-    match write_call(call, &mut buf[0..room]) {
-        Ok(_) => Err(Fail::new("it was written")),
-        Err(refusal) => {
-            check(refusal.number() == number)?;
-            check(buf[0] == 238)?;
-            check(buf[63] == 238)
-        }
-    }
-}
-
-#[test]
-fn calls_that_are_not_written() -> Result<(), Fail> {
-    unwritten(&CallMessage::Draw, 0, 19)?;
-    unwritten(&CallMessage::Draw, 3, 19)?;
-    unwritten(&CallMessage::Tick { time: 1 }, 11, 19)?;
-    let bytes = entry(0, 0);
-    let (answer, _) = read(&bytes);
-    let Ok(CallMessage::Entry { order, .. }) = answer else {
-        return Err(Fail::new("no entry"));
-    };
-    let reference = [65u8; 17];
-    unwritten(&CallMessage::Entry { order, reference: &reference[0..16] }, 42, 19)?;
-    unwritten(&CallMessage::Entry { order, reference: &reference }, 64, 5)?;
-    let mut past = order;
-    past.end = Some(0);
-    unwritten(&CallMessage::Entry { order: past, reference: &[] }, 64, 13)
 }

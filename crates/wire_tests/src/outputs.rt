@@ -58,8 +58,60 @@ fn refusals() -> Result<(), Fail> {
     refused(&[0, 2, 1, 5], 4, 3)?;
     refused(&[0, 2, 1, 22], 5, 0)?;
     refused(&[0, 8, 1, 32, 0, 0, 0, 0, 0, 0], 5, 0)?;
-    refused(&[0, 19, 1, 22, 0, 0, 0, 0, 0, 0, 0, 0, 0, 0, 0, 0, 0, 0, 0, 0, 0], 4, 3)?;
-    refused(&[0, 19, 1, 22, 0, 0, 0, 0, 0, 0, 0, 0, 0, 0, 0, 0, 0, 0, 0, 0, 4], 4, 3)
+    refused(
+        &[
+            0,
+            19,
+            1,
+            22,
+            0,
+            0,
+            0,
+            0,
+            0,
+            0,
+            0,
+            0,
+            0,
+            0,
+            0,
+            0,
+            0,
+            0,
+            0,
+            0,
+            0,
+        ],
+        4,
+        3,
+    )?;
+    refused(
+        &[
+            0,
+            19,
+            1,
+            22,
+            0,
+            0,
+            0,
+            0,
+            0,
+            0,
+            0,
+            0,
+            0,
+            0,
+            0,
+            0,
+            0,
+            0,
+            0,
+            0,
+            4,
+        ],
+        4,
+        3,
+    )
 }
 
 #[test]
@@ -72,18 +124,149 @@ fn records_of_a_time() -> Result<(), Fail> {
 
 #[test]
 fn fills_and_sessions() -> Result<(), Fail> {
-    exact(&[
-        0, 34, 1, 17, 255, 255, 255, 255, 255, 255, 255, 255, 128, 0, 0, 0, 255, 255, 255, 255, 255, 255, 255, 254, 255, 255, 255,
-        253, 255, 255, 255, 252, 255, 255, 255, 251,
-    ])?;
-    exact(&[0, 18, 1, 18, 0, 0, 0, 0, 0, 0, 0, 1, 255, 240, 189, 192, 255, 255, 255, 255])
+    exact(
+        &[
+            0,
+            34,
+            1,
+            17,
+            255,
+            255,
+            255,
+            255,
+            255,
+            255,
+            255,
+            255,
+            128,
+            0,
+            0,
+            0,
+            255,
+            255,
+            255,
+            255,
+            255,
+            255,
+            255,
+            254,
+            255,
+            255,
+            255,
+            253,
+            255,
+            255,
+            255,
+            252,
+            255,
+            255,
+            255,
+            251,
+        ],
+    )?;
+    exact(
+        &[
+            0,
+            18,
+            1,
+            18,
+            0,
+            0,
+            0,
+            0,
+            0,
+            0,
+            0,
+            1,
+            255,
+            240,
+            189,
+            192,
+            255,
+            255,
+            255,
+            255,
+        ],
+    )
 }
 
 #[test]
 fn removals_and_replies() -> Result<(), Fail> {
-    exact(&[0, 19, 1, 22, 0, 0, 0, 0, 0, 0, 0, 1, 0, 0, 0, 2, 0, 0, 0, 3, 1])?;
-    exact(&[0, 19, 1, 22, 0, 0, 0, 0, 0, 0, 0, 1, 0, 0, 0, 2, 0, 0, 0, 3, 2])?;
-    exact(&[0, 19, 1, 22, 0, 0, 0, 0, 0, 0, 0, 1, 255, 255, 255, 255, 255, 255, 255, 255, 3])?;
+    exact(
+        &[
+            0,
+            19,
+            1,
+            22,
+            0,
+            0,
+            0,
+            0,
+            0,
+            0,
+            0,
+            1,
+            0,
+            0,
+            0,
+            2,
+            0,
+            0,
+            0,
+            3,
+            1,
+        ],
+    )?;
+    exact(
+        &[
+            0,
+            19,
+            1,
+            22,
+            0,
+            0,
+            0,
+            0,
+            0,
+            0,
+            0,
+            1,
+            0,
+            0,
+            0,
+            2,
+            0,
+            0,
+            0,
+            3,
+            2,
+        ],
+    )?;
+    exact(
+        &[
+            0,
+            19,
+            1,
+            22,
+            0,
+            0,
+            0,
+            0,
+            0,
+            0,
+            0,
+            1,
+            255,
+            255,
+            255,
+            255,
+            255,
+            255,
+            255,
+            255,
+            3,
+        ],
+    )?;
     exact(&[0, 7, 1, 32, 0, 0, 0, 0, 0])?;
     exact(&[0, 7, 1, 32, 19, 0, 0, 0, 0])?;
     exact(&[0, 7, 1, 32, 255, 255, 255, 255, 255])
@@ -92,10 +275,33 @@ fn removals_and_replies() -> Result<(), Fail> {
 #[test]
 fn answers() -> Result<(), Fail> {
     let told = Output::of(Answer::Refused(Refusal::Book(BookFault::Size)));
-    check(matches!(told, Output::Reply { refusal: 12, order: 0 }))?;
-    check(matches!(Output::of(Answer::Entered(7)), Output::Reply { refusal: 0, order: 7 }))?;
-    check(matches!(Output::of(Answer::Done), Output::Reply { refusal: 0, order: 0 }))?;
-    let told = Output::of(Answer::Drawn(Record::Removal { time: 1, number: 2, displayed: 3, cause: Cause::End }));
+    check(matches!(
+        told,
+        Output::Reply {
+            refusal: 12,
+            order: 0
+        }
+    ))?;
+    check(matches!(
+        Output::of(Answer::Entered(7)),
+        Output::Reply {
+            refusal: 0,
+            order: 7
+        }
+    ))?;
+    check(matches!(
+        Output::of(Answer::Done),
+        Output::Reply {
+            refusal: 0,
+            order: 0
+        }
+    ))?;
+    let told = Output::of(Answer::Drawn(Record::Removal {
+        time: 1,
+        number: 2,
+        displayed: 3,
+        cause: Cause::End,
+    }));
     let mut buf = [0u8; 21];
     check(matches!(write(&told, &mut buf), Ok(21)))?;
     check(buf[20] == 3)
