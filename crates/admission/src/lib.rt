@@ -1,4 +1,5 @@
 //! Whether a call is accepted.
+#![tactic(auto)]
 
 pub mod calls;
 pub mod checks;

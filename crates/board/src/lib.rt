@@ -1,4 +1,5 @@
 //! The board in memory: all of a book's state that everybody may know. Reserves are kept apart from it.
+#![tactic(auto)]
 
 pub mod board;
 pub mod completions;

@@ -1,4 +1,5 @@
 //! The book of one swap, over any three lines.
+#![tactic(auto)]
 
 pub mod book;
 pub mod calls;

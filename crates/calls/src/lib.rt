@@ -1,4 +1,5 @@
 //! Calls: how a book in memory is opened, does what it is asked for, and answers as the rules define.
+#![tactic(auto)]
 
 pub mod cancelling;
 pub mod changing;

@@ -1,4 +1,6 @@
 //! Turns lines of plain words into call messages. A line that is no call is reported on the standard error, and skipped.
+#![tactic(auto)]
+
 use plain::fault::TextFault;
 use plain::parse::parse;
 use std::io;

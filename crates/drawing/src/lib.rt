@@ -1,4 +1,5 @@
 //! Draws: which step applies, and how a book in memory does it.
+#![tactic(auto)]
 
 pub mod beginning;
 pub mod due;

@@ -1,4 +1,5 @@
 //! What accepted calls do to the board in memory and to the reserves. The lines of the book are not known here.
+#![tactic(auto)]
 
 pub mod effects;
 pub mod rows;

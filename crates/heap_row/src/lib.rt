@@ -1,4 +1,5 @@
 //! A line that keeps its row as a heap.
+#![tactic(auto)]
 
 mod heap;
 pub mod heap_row;

@@ -1,4 +1,6 @@
 //! Messages taken from an input one at a time, wherever it is split.
+#![tactic(auto)]
+
 ghost use Rattle.std.specs.Prelude.{◌≡◌, ◌+◌, IfOk, vec_len};
 
 use layout::number::u16_at;

@@ -1,4 +1,6 @@
 //! What holds of every run of calls, by the rules alone.
+#![tactic(auto)]
+
 ghost use Rattle.invariants.specs.Orderly.{StaysOrderly, QuietSettled, FillsOfTwo};
 ghost use Rattle.invariants.specs.Prompt.{Prompt};
 ghost use Rattle.invariants.specs.Sound.{StaysSound};

@@ -1,4 +1,6 @@
 //! The laws of the book, over every run of calls from an opening.
+#![tactic(auto)]
+
 ghost use Rattle.laws.specs.Fair.{Fair};
 ghost use Rattle.laws.specs.Hidden.{Hidden, HiddenFromAll};
 ghost use Rattle.laws.specs.Differing.{Differing};

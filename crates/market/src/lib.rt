@@ -1,4 +1,5 @@
 //! The vocabulary of the venue: what is traded, what traders ask, what the tape tells, and why a call is refused.
+#![tactic(auto)]
 
 pub mod answer;
 pub mod call;

@@ -1,4 +1,5 @@
 //! Examples of the vocabulary at work.
+#![tactic(auto)]
 
 #[cfg(test)]
 mod tests {

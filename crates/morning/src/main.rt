@@ -1,5 +1,7 @@
 //! A morning's bids: reads orders, cancels and times from its standard input, keeps the queue by rank in both kinds of line, and
 //! prints what happens, and the queue when asked. docs/TOOLS.md has the form of its lines.
+#![tactic(auto)]
+
 mod book;
 mod script;
 

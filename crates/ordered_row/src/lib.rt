@@ -1,4 +1,5 @@
 //! A line that keeps its row in order.
+#![tactic(auto)]
 
 pub mod ordered_row;
 mod shifts;

@@ -1,4 +1,5 @@
 //! Calls as lines of plain words.
+#![tactic(auto)]
 
 pub mod fault;
 mod numeral;

@@ -1,4 +1,5 @@
 //! Queues: how a line is kept in step with the live orders, and what is read along it.
+#![tactic(auto)]
 
 pub mod best;
 pub mod ends;

@@ -1,4 +1,5 @@
 //! Tables of a fixed size, which allocate nothing.
+#![tactic(auto)]
 
 pub mod edits;
 pub mod fixed;

@@ -1,5 +1,7 @@
 //! Reads messages of every kind from its input and prints each as a line of plain words, as it comes. At a message that cannot be
 //! read it says where and why, and stops.
+#![tactic(auto)]
+
 use intake::hold;
 use std::io;
 use std::io::BufReader;

@@ -1,3 +1,4 @@
 //! Messages and refusals in plain words.
+#![tactic(auto)]
 
 pub mod show;

@@ -1,5 +1,7 @@
 //! The venue: takes calls on its standard input and answers each as it comes, a record for a draw and a reply for any other message.
 //! It stops after a message that cannot be read, or where the input ends.
+#![tactic(auto)]
+
 use anyhow::anyhow;
 use book::book::Book;
 use heap_row::heap_row::HeapRow;

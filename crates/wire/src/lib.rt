@@ -1,4 +1,5 @@
 //! Messages of every kind, as a host receives and sends them.
+#![tactic(auto)]
 
 pub mod message;
 pub mod read;

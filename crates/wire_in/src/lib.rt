@@ -1,4 +1,5 @@
 //! The messages that a book takes: how calls are read from bytes and written as bytes.
+#![tactic(auto)]
 
 pub mod laws;
 pub mod message;

@@ -1,4 +1,5 @@
 //! The messages that a book's host writes: the tape's records, and replies to the calls that are not draws.
+#![tactic(auto)]
 
 pub mod laws;
 pub mod output;

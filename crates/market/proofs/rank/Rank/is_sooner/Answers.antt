@@ -20,6 +20,6 @@ returns-then-class-against c =
 pub returns : goal.returns
 unfolding sooner
 returns c =
-    c.is-earlier.ensures ∙
+    c.is_earlier.ensures ∙
     even (class_number c.args.self.now.standing.class) (class_number c.args.other.now.standing.class) _ _ _
     c.number-class.ensures c.number-against.ensures c.if-class-against.false
