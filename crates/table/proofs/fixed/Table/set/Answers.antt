@@ -3,8 +3,8 @@ use lib.Seq.{take-set-lt, set_out}
 use Rattle.std.proofs.lemmas.List.{length-take-le}
 use Rattle.table.proofs.fixed.Table.set.Goals as goal
 
-pub offset-bounds-self-at : goal.offset-bounds-self-at
-offset-bounds-self-at g c = let s = c.args.self.now in omega (arith, s.fits, s.whole, c.if-at-self.true)
+pub offset_bounds-self-at : goal.offset_bounds-self-at
+offset_bounds-self-at g c = let s = c.args.self.now in omega (arith, s.fits, s.whole, c.if-at-self.true)
 
 pub returns-then-at-self : goal.returns-then-at-self
 returns-then-at-self g c =
