@@ -6,6 +6,6 @@ pub returns-in-None : goal.returns-in-None
 unfolding completed
 returns-in-None c = search rules
 
-pub returns-in-default : goal.returns-in-default
+pub returns-in_default : goal.returns-in_default
 unfolding completed
-returns-in-default c = search rules
+returns-in_default c = search rules

@@ -6,13 +6,13 @@ use Rattle.board.proofs.earning.carrier_since.Goals as goal
 pub loop-order-preserved : goal.loop-order-preserved
 loop-order-preserved c =
     c.loop-order.invariant ∙
-    find-no _ c.args.orders.now c.loop-order.order-index _ c.loop-order-test.true (sym c.is-since.ensures ∙ c.if-is-since.false)
+    find-no _ c.args.orders.now c.loop-order.order-index _ c.loop-order-test.true (sym c.is_since.ensures ∙ c.if-is_since.false)
 
-pub returns-then-is-since : goal.returns-then-is-since
-returns-then-is-since c =
+pub returns-then-is_since : goal.returns-then-is_since
+returns-then-is_since c =
     sym (ap as_carrier (
     c.loop-order.invariant ∙
-    find-yes _ c.args.orders.now c.loop-order.order-index _ c.loop-order-test.true (sym c.is-since.ensures ∙ c.if-is-since.true)))
+    find-yes _ c.args.orders.now c.loop-order.order-index _ c.loop-order-test.true (sym c.is_since.ensures ∙ c.if-is_since.true)))
 
 pub returns : goal.returns
 returns c = sym (ap as_carrier (c.loop-order.invariant ∙ find-end _ c.args.orders.now c.loop-order.order-index c.loop-order-test.false))

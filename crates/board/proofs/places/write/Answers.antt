@@ -5,10 +5,10 @@ use Rattle.board.proofs.places.write.Goals as goal
 
 pub returns-then-at-table : goal.returns-then-at-table
 unfolding place
-returns-then-at-table g c = ap (λ (n : ℕ). set c.args.table.now n (Some c.args.item)) c.place-of-at.ensures
+returns-then-at-table g c = ap (λ (n : ℕ). set c.args.table.now n (Some c.args.item)) c.place_of-at.ensures
 
 pub returns-else-at-table : goal.returns-else-at-table
 unfolding place
 returns-else-at-table g c =
     let xs = c.args.table.now in
-    sym (set_past xs _ _ (subst (λ (n : ℕ). length xs ≤ n) c.place-of-at.ensures c.if-at-table.false))
+    sym (set_past xs _ _ (subst (λ (n : ℕ). length xs ≤ n) c.place_of-at.ensures c.if-at-table.false))

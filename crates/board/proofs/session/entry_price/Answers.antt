@@ -2,10 +2,10 @@ use Rattle.std.proofs.Common.{rules}
 use Rattle.rules.specs.Refusing.{entry_price}
 use Rattle.board.proofs.session.entry_price.Goals as goal
 
-pub returns-then-beats-session : goal.returns-then-beats-session
+pub returns-then-beats_session : goal.returns-then-beats_session
 unfolding entry_price
-returns-then-beats-session c = search rules
+returns-then-beats_session c = search rules
 
-pub returns-else-beats-session : goal.returns-else-beats-session
+pub returns-else-beats_session : goal.returns-else-beats_session
 unfolding entry_price
-returns-else-beats-session c = search rules
+returns-else-beats_session c = search rules

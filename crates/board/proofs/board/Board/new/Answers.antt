@@ -6,4 +6,4 @@ use Rattle.board.proofs.board.Board.new.Goals as goal
 pub returns : goal.returns
 unfolding opened
 returns c =
-    same-board c.new.ensures refl refl c.blank-session.ensures c.no-completions.ensures c.new-2.ensures
+    same-board c.new.ensures refl refl c.blank_session.ensures c.no_completions.ensures c.new-2.ensures

@@ -14,7 +14,7 @@ loop-trader-preserved c =
     let l = c.loop-trader.invariant.0 in (
       simp length-set l,
       rows_written (earned c.args.orders.now c.args.completions.now) c.loop-trader.slots c.loop-trader.trader _ _
-          (omega (arith, l)) c.loop-trader.invariant.1 c.earned-by.ensures c.earned-by-in-loop-trader.ensures,
+          (omega (arith, l)) c.loop-trader.invariant.1 c.earned_by.ensures c.earned_by-in-loop-trader.ensures,
     )
 
 pub returns : goal.returns
