@@ -26,110 +26,110 @@ so : (k : Opening) (b : Board) (x : OrderChange) (o : Option Order) (P : List (B
     P (change_of (owned b x.trader x.number) k b x (is_size k x.reserve))
 so k b x o P e h = subst (λ (r : Option Order). P (change_of r k b x (is_size k x.reserve))) (sym e) h
 
-pub returns-in-err-check-quiet : goal.returns-in-err-check-quiet
+pub returns-in_err-check_quiet : goal.returns-in_err-check_quiet
 unfolding change_refusal change_tests
-returns-in-err-check-quiet c = λ k e.
+returns-in_err-check_quiet c = λ k e.
     let b = board_of c.args.board.now in
     let x = c.args.change.now in
-    let f = failed _ _ c.in-err-check-quiet.ensures in
-    finds _ _ c.from-residual.ensures.1
+    let f = failed _ _ c.in_err-check_quiet.ensures in
+    finds _ _ c.from_residual.ensures.1
     (upto 0 (tests k b x) _ (f.0, ap Book f.1))
 
-pub returns-in-err-check-trader : goal.returns-in-err-check-trader
+pub returns-in_err-check_trader : goal.returns-in_err-check_trader
 unfolding change_refusal change_tests
-returns-in-err-check-trader c = λ k e.
+returns-in_err-check_trader c = λ k e.
     let b = board_of c.args.board.now in
     let x = c.args.change.now in
-    let quiet = passed _ _ c.in-ok-check-quiet.ensures in
-    let f = failed _ _ c.in-err-check-trader.ensures in
-    finds _ _ c.from-residual-in-err-check-trader.ensures.1
+    let quiet = passed _ _ c.in_ok-check_quiet.ensures in
+    let f = failed _ _ c.in_err-check_trader.ensures in
+    finds _ _ c.from_residual-in_err-check_trader.ensures.1
     (upto 1 (tests k b x) _ (quiet, (f.0, ap Book f.1)))
 
-pub returns-in-err-order : goal.returns-in-err-order
+pub returns-in_err-order : goal.returns-in_err-order
 unfolding change_refusal change_tests
-returns-in-err-order c = λ k e.
+returns-in_err-order c = λ k e.
     let b = board_of c.args.board.now in
     let x = c.args.change.now in
-    let quiet = passed _ _ c.in-ok-check-quiet.ensures in
-    let trader = passed _ _ c.in-ok-check-trader.ensures in
-    let f = missing _ _ c.in-err-order.ensures.value in
-    finds _ _ c.from-residual-in-err-order.ensures.1
-    (upto 2 (tests k b x) _ (quiet, (trader, so k b x None (λ cs. Upto 0 cs (Book c.in-err-order.field-0.0)) (sym c.owned-by.ensures ∙ f.0) (refl, ap Book f.1))))
+    let quiet = passed _ _ c.in_ok-check_quiet.ensures in
+    let trader = passed _ _ c.in_ok-check_trader.ensures in
+    let f = missing _ _ c.in_err-order.ensures.value in
+    finds _ _ c.from_residual-in_err-order.ensures.1
+    (upto 2 (tests k b x) _ (quiet, (trader, so k b x None (λ cs. Upto 0 cs (Book c.in_err-order.field-0.0)) (sym c.owned_by.ensures ∙ f.0) (refl, ap Book f.1))))
 
-pub returns-in-err-check-price : goal.returns-in-err-check-price
+pub returns-in_err-check_price : goal.returns-in_err-check_price
 unfolding change_refusal change_tests
-returns-in-err-check-price c = λ k e.
+returns-in_err-check_price c = λ k e.
     let b = board_of c.args.board.now in
     let x = c.args.change.now in
     let fits : SFits w32 x.price = search rules in
-    let quiet = passed _ _ c.in-ok-check-quiet.ensures in
-    let trader = passed _ _ c.in-ok-check-trader.ensures in
-    let order = sym c.owned-by.ensures ∙ found _ _ c.in-ok-order.ensures.value in
-    let f = failed-at (λ z. not (is_price z)) _ _ fits c.in-err-check-price.ensures in
-    finds _ _ c.from-residual-in-err-check-price.ensures.1
-    (upto 2 (tests k b x) _ (quiet, (trader, so k b x (Some c.in-ok-order.order) (λ cs. Upto 0 cs (Book c.in-err-check-price.field-0.0)) order (f.0, ap Book f.1))))
+    let quiet = passed _ _ c.in_ok-check_quiet.ensures in
+    let trader = passed _ _ c.in_ok-check_trader.ensures in
+    let order = sym c.owned_by.ensures ∙ found _ _ c.in_ok-order.ensures.value in
+    let f = failed-at (λ z. not (is_price z)) _ _ fits c.in_err-check_price.ensures in
+    finds _ _ c.from_residual-in_err-check_price.ensures.1
+    (upto 2 (tests k b x) _ (quiet, (trader, so k b x (Some c.in_ok-order.order) (λ cs. Upto 0 cs (Book c.in_err-check_price.field-0.0)) order (f.0, ap Book f.1))))
 
-pub returns-in-err-check-sizes : goal.returns-in-err-check-sizes
+pub returns-in_err-check_sizes : goal.returns-in_err-check_sizes
 unfolding change_refusal change_tests
-returns-in-err-check-sizes c = λ k e.
+returns-in_err-check_sizes c = λ k e.
     let b = board_of c.args.board.now in
     let x = c.args.change.now in
     let fits : SFits w32 x.price = search rules in
-    let quiet = passed _ _ c.in-ok-check-quiet.ensures in
-    let trader = passed _ _ c.in-ok-check-trader.ensures in
-    let order = sym c.owned-by.ensures ∙ found _ _ c.in-ok-order.ensures.value in
-    let price = passed-at (λ z. not (is_price z)) _ _ fits c.in-ok-check-price.ensures in
-    let f = failed _ _ (c.in-err-check-sizes.ensures k e) in
-    finds _ _ c.from-residual-in-err-check-sizes.ensures.1
-    (upto 3 (tests k b x) _ (quiet, (trader, so k b x (Some c.in-ok-order.order) (λ cs. Upto 1 cs (Book c.in-err-check-sizes.field-0.0)) order (price, (f.0, ap Book f.1)))))
+    let quiet = passed _ _ c.in_ok-check_quiet.ensures in
+    let trader = passed _ _ c.in_ok-check_trader.ensures in
+    let order = sym c.owned_by.ensures ∙ found _ _ c.in_ok-order.ensures.value in
+    let price = passed-at (λ z. not (is_price z)) _ _ fits c.in_ok-check_price.ensures in
+    let f = failed _ _ (c.in_err-check_sizes.ensures k e) in
+    finds _ _ c.from_residual-in_err-check_sizes.ensures.1
+    (upto 3 (tests k b x) _ (quiet, (trader, so k b x (Some c.in_ok-order.order) (λ cs. Upto 1 cs (Book c.in_err-check_sizes.field-0.0)) order (price, (f.0, ap Book f.1)))))
 
-pub returns-in-err-check-better : goal.returns-in-err-check-better
+pub returns-in_err-check_better : goal.returns-in_err-check_better
 unfolding change_refusal change_tests
-returns-in-err-check-better c = λ k e.
+returns-in_err-check_better c = λ k e.
     let b = board_of c.args.board.now in
     let x = c.args.change.now in
     let fits : SFits w32 x.price = search rules in
-    let quiet = passed _ _ c.in-ok-check-quiet.ensures in
-    let trader = passed _ _ c.in-ok-check-trader.ensures in
-    let order = sym c.owned-by.ensures ∙ found _ _ c.in-ok-order.ensures.value in
-    let price = passed-at (λ z. not (is_price z)) _ _ fits c.in-ok-check-price.ensures in
-    let sizes = passed _ _ (c.in-ok-check-sizes.ensures k e) in
-    let f = failed-at (beats b c.in-ok-order.order.side) _ _ fits c.in-err-check-better.ensures in
-    finds _ _ c.from-residual-in-err-check-better.ensures.1
-    (upto 4 (tests k b x) _ (quiet, (trader, so k b x (Some c.in-ok-order.order) (λ cs. Upto 2 cs (Book c.in-err-check-better.field-0.0)) order (price, (sizes, (f.0, ap Book f.1))))))
+    let quiet = passed _ _ c.in_ok-check_quiet.ensures in
+    let trader = passed _ _ c.in_ok-check_trader.ensures in
+    let order = sym c.owned_by.ensures ∙ found _ _ c.in_ok-order.ensures.value in
+    let price = passed-at (λ z. not (is_price z)) _ _ fits c.in_ok-check_price.ensures in
+    let sizes = passed _ _ (c.in_ok-check_sizes.ensures k e) in
+    let f = failed-at (beats b c.in_ok-order.order.side) _ _ fits c.in_err-check_better.ensures in
+    finds _ _ c.from_residual-in_err-check_better.ensures.1
+    (upto 4 (tests k b x) _ (quiet, (trader, so k b x (Some c.in_ok-order.order) (λ cs. Upto 2 cs (Book c.in_err-check_better.field-0.0)) order (price, (sizes, (f.0, ap Book f.1))))))
 
-pub returns-in-err-check-own : goal.returns-in-err-check-own
+pub returns-in_err-check_own : goal.returns-in_err-check_own
 unfolding change_refusal change_tests
-returns-in-err-check-own c = λ k e.
+returns-in_err-check_own c = λ k e.
     let b = board_of c.args.board.now in
     let x = c.args.change.now in
     let fits : SFits w32 x.price = search rules in
-    let quiet = passed _ _ c.in-ok-check-quiet.ensures in
-    let trader = passed _ _ c.in-ok-check-trader.ensures in
-    let order = sym c.owned-by.ensures ∙ found _ _ c.in-ok-order.ensures.value in
-    let price = passed-at (λ z. not (is_price z)) _ _ fits c.in-ok-check-price.ensures in
-    let sizes = passed _ _ (c.in-ok-check-sizes.ensures k e) in
-    let better = passed-at (beats b c.in-ok-order.order.side) _ _ fits c.in-ok-check-better.ensures in
-    let f = failed-at (own_meets b.orders x.trader c.in-ok-order.order.side) _ _ fits c.in-err-check-own.ensures in
-    finds _ _ c.from-residual-in-err-check-own.ensures.1
-    (upto 5 (tests k b x) _ (quiet, (trader, so k b x (Some c.in-ok-order.order) (λ cs. Upto 3 cs (Book c.in-err-check-own.field-0.0)) order (price, (sizes, (better, (f.0, ap Book f.1)))))))
+    let quiet = passed _ _ c.in_ok-check_quiet.ensures in
+    let trader = passed _ _ c.in_ok-check_trader.ensures in
+    let order = sym c.owned_by.ensures ∙ found _ _ c.in_ok-order.ensures.value in
+    let price = passed-at (λ z. not (is_price z)) _ _ fits c.in_ok-check_price.ensures in
+    let sizes = passed _ _ (c.in_ok-check_sizes.ensures k e) in
+    let better = passed-at (beats b c.in_ok-order.order.side) _ _ fits c.in_ok-check_better.ensures in
+    let f = failed-at (own_meets b.orders x.trader c.in_ok-order.order.side) _ _ fits c.in_err-check_own.ensures in
+    finds _ _ c.from_residual-in_err-check_own.ensures.1
+    (upto 5 (tests k b x) _ (quiet, (trader, so k b x (Some c.in_ok-order.order) (λ cs. Upto 3 cs (Book c.in_err-check_own.field-0.0)) order (price, (sizes, (better, (f.0, ap Book f.1)))))))
 
-pub returns-in-err-check-writes : goal.returns-in-err-check-writes
+pub returns-in_err-check_writes : goal.returns-in_err-check_writes
 unfolding change_refusal change_tests
-returns-in-err-check-writes c = λ k e.
+returns-in_err-check_writes c = λ k e.
     let b = board_of c.args.board.now in
     let x = c.args.change.now in
     let fits : SFits w32 x.price = search rules in
-    let quiet = passed _ _ c.in-ok-check-quiet.ensures in
-    let trader = passed _ _ c.in-ok-check-trader.ensures in
-    let order = sym c.owned-by.ensures ∙ found _ _ c.in-ok-order.ensures.value in
-    let price = passed-at (λ z. not (is_price z)) _ _ fits c.in-ok-check-price.ensures in
-    let sizes = passed _ _ (c.in-ok-check-sizes.ensures k e) in
-    let better = passed-at (beats b c.in-ok-order.order.side) _ _ fits c.in-ok-check-better.ensures in
-    let own = passed-at (own_meets b.orders x.trader c.in-ok-order.order.side) _ _ fits c.in-ok-check-own.ensures in
-    let f = failed _ _ c.in-err-check-writes.ensures in
-    finds _ _ c.from-residual-in-err-check-writes.ensures.1
-    (upto 6 (tests k b x) _ (quiet, (trader, so k b x (Some c.in-ok-order.order) (λ cs. Upto 4 cs (Book c.in-err-check-writes.field-0.0)) order (price, (sizes, (better, (own, (f.0, ap Book f.1))))))))
+    let quiet = passed _ _ c.in_ok-check_quiet.ensures in
+    let trader = passed _ _ c.in_ok-check_trader.ensures in
+    let order = sym c.owned_by.ensures ∙ found _ _ c.in_ok-order.ensures.value in
+    let price = passed-at (λ z. not (is_price z)) _ _ fits c.in_ok-check_price.ensures in
+    let sizes = passed _ _ (c.in_ok-check_sizes.ensures k e) in
+    let better = passed-at (beats b c.in_ok-order.order.side) _ _ fits c.in_ok-check_better.ensures in
+    let own = passed-at (own_meets b.orders x.trader c.in_ok-order.order.side) _ _ fits c.in_ok-check_own.ensures in
+    let f = failed _ _ c.in_err-check_writes.ensures in
+    finds _ _ c.from_residual-in_err-check_writes.ensures.1
+    (upto 6 (tests k b x) _ (quiet, (trader, so k b x (Some c.in_ok-order.order) (λ cs. Upto 4 cs (Book c.in_err-check_writes.field-0.0)) order (price, (sizes, (better, (own, (f.0, ap Book f.1))))))))
 
 pub returns : goal.returns
 unfolding change_refusal change_tests
@@ -137,12 +137,12 @@ returns c = λ k e.
     let b = board_of c.args.board.now in
     let x = c.args.change.now in
     let fits : SFits w32 x.price = search rules in
-    let quiet = passed _ _ c.in-ok-check-quiet.ensures in
-    let trader = passed _ _ c.in-ok-check-trader.ensures in
-    let order = sym c.owned-by.ensures ∙ found _ _ c.in-ok-order.ensures.value in
-    let price = passed-at (λ z. not (is_price z)) _ _ fits c.in-ok-check-price.ensures in
-    let sizes = passed _ _ (c.in-ok-check-sizes.ensures k e) in
-    let better = passed-at (beats b c.in-ok-order.order.side) _ _ fits c.in-ok-check-better.ensures in
-    let own = passed-at (own_meets b.orders x.trader c.in-ok-order.order.side) _ _ fits c.in-ok-check-own.ensures in
-    let writes = passed _ _ c.in-ok-check-writes.ensures in
-    (none_left (tests k b x) (quiet, (trader, so k b x (Some c.in-ok-order.order) Fails order (price, (sizes, (better, (own, (writes, tt))))))), order)
+    let quiet = passed _ _ c.in_ok-check_quiet.ensures in
+    let trader = passed _ _ c.in_ok-check_trader.ensures in
+    let order = sym c.owned_by.ensures ∙ found _ _ c.in_ok-order.ensures.value in
+    let price = passed-at (λ z. not (is_price z)) _ _ fits c.in_ok-check_price.ensures in
+    let sizes = passed _ _ (c.in_ok-check_sizes.ensures k e) in
+    let better = passed-at (beats b c.in_ok-order.order.side) _ _ fits c.in_ok-check_better.ensures in
+    let own = passed-at (own_meets b.orders x.trader c.in_ok-order.order.side) _ _ fits c.in_ok-check_own.ensures in
+    let writes = passed _ _ c.in_ok-check_writes.ensures in
+    (none_left (tests k b x) (quiet, (trader, so k b x (Some c.in_ok-order.order) Fails order (price, (sizes, (better, (own, (writes, tt))))))), order)

@@ -14,18 +14,18 @@ returns c k m h w a i j d e =
     let bid = c.args.bid.now in
     let offer = c.args.offer.now in
     let size = c.min-size.result in
-    let n = c.saturating-add-number.result in
-    let b' = board_of c.settle-bid-left.new.board in
-    let b'' = board_of c.settle-offer-left.new.board in
-    let counted : n ≡ b.counters.fills + 1 = omega (arith, c.saturating-add-number.ensures, w.fills) in
+    let n = c.saturating_add-number.result in
+    let b' = board_of c.settle-bid_left.new.board in
+    let b'' = board_of c.settle-offer_left.new.board in
+    let counted : n ≡ b.counters.fills + 1 = omega (arith, c.saturating_add-number.ensures, w.fills) in
     let room : b.counters.stamp + 1 < 2 ^ 64 = omega (arith, w.stamp) in
-    let one = c.settle-bid-left.ensures k m h room a i e in
+    let one = c.settle-bid_left.ensures k m h room a i e in
     let on = onward h b bid offer size n d k m b' one.board w a j in
-    let two = c.settle-offer-left.ensures k m (between h b bid offer size n d) on.0 on.1 on.2 one.reserves in
-    let fits : SFits w32 c.fill-price-price.result = search rules in
-    let x = c.settle-bid-left.result in
-    let y = c.settle-offer-left.result in
-    let told = c.session-after-board.ensures in
-    filled h b bid offer size n d b' b'' (items c.settle-bid-left.new.reserves) (items c.settle-offer-left.new.reserves) x y one two counted
-    c.min-size.ensures _ (to_z-of_z w32 c.fill-price-price.result fits ∙ c.fill-price-price.ensures) _ _ c.displayed-of.ensures
-    c.displayed-of-2.ensures _ (same-board refl refl told refl refl) _ refl
+    let two = c.settle-offer_left.ensures k m (between h b bid offer size n d) on.0 on.1 on.2 one.reserves in
+    let fits : SFits w32 c.fill_price-price.result = search rules in
+    let x = c.settle-bid_left.result in
+    let y = c.settle-offer_left.result in
+    let told = c.session_after-board.ensures in
+    filled h b bid offer size n d b' b'' (items c.settle-bid_left.new.reserves) (items c.settle-offer_left.new.reserves) x y one two counted
+    c.min-size.ensures _ (to_z-of_z w32 c.fill_price-price.result fits ∙ c.fill_price-price.ensures) _ _ c.displayed_of.ensures
+    c.displayed_of-2.ensures _ (same-board refl refl told refl refl) _ refl

@@ -24,18 +24,18 @@ same-session : (s : Session) {p p' : ℤ} {a a' : Option ℕ} {l l' : ℕ} {x x'
     p ≡ p' → a ≡ a' → l ≡ l' → x ≡ x' → y ≡ y' → session_with s p a l x y ≡ session_with s p' a' l' x' y'
 same-session s e f g h i = cc
 
-pub returns-then-not-in-session : goal.returns-then-not-in-session
+pub returns-then-not-in_session : goal.returns-then-not-in_session
 unfolding session_after
-returns-then-not-in-session c =
+returns-then-not-in_session c =
     let fits : SFits w32 c.args.board.now.session.price = search rules in
-    let out = sym c.if-not-in-session.ensures in
-    same-session c.args.board.now.session (to_z-of_z w32 c.args.board.now.session.price fits) c.aggressor-after-aggressor.ensures
+    let out = sym c.if-not-in_session.ensures in
+    same-session c.args.board.now.session (to_z-of_z w32 c.args.board.now.session.price fits) c.aggressor_after-aggressor.ensures
     (sym (cond-false _ _ _ out)) (sym (cond-false _ _ _ out)) (sym (cond-false _ _ _ out))
 
 pub returns : goal.returns
 unfolding session_after
 returns c =
     let fits : SFits w32 c.args.board.now.session.price = search rules in
-    let runs = sym c.if-not-in-session.ensures in
-    same-session c.args.board.now.session (to_z-of_z w32 c.args.board.now.session.price fits) c.aggressor-after-aggressor.ensures
+    let runs = sym c.if-not-in_session.ensures in
+    same-session c.args.board.now.session (to_z-of_z w32 c.args.board.now.session.price fits) c.aggressor_after-aggressor.ensures
     (sym (cond-true _ _ _ runs)) (sym (cond-true _ _ _ runs)) (sym (cond-true _ _ _ runs))

@@ -28,22 +28,22 @@ returns c k m h room a i e =
     let f = remainder_of h size o in
     let rs = each (reserve_of h) os in
     let at : c.position-row.result ≡ position_of n os = c.position-row.ensures ∙ ap (position_of n) c.items.ensures.value in
-    let reserve : c.reserve-at-reserve.result ≡ h n =
-    c.reserve-at-reserve.ensures ∙ ap (reserve_at c.position-row.result) (c.items-2.ensures.value ∙ sym e) ∙
+    let reserve : c.reserve_at-reserve.result ≡ h n =
+    c.reserve_at-reserve.ensures ∙ ap (reserve_at c.position-row.result) (c.items-2.ensures.value ∙ sym e) ∙
     ap (λ t. reserve_at t rs) at ∙ reserve-position h os o i in
     let is : meant c.of-remainder.result ≡ f =
-    c.of-remainder.ensures ∙ ap (λ x. remainder x o.shown c.reserve-at-reserve.result) c.saturating-sub.ensures ∙
+    c.of-remainder.ensures ∙ ap (λ x. remainder x o.shown c.reserve_at-reserve.result) c.saturating_sub.ensures ∙
     ap (remainder (o.displayed - size) o.shown) reserve in
-    let after : c.order-after-after.result ≡ left_of b o size fill f =
-    c.order-after-after.ensures ∙ ap (λ g. left g stamp c.executed.result) is ∙
-    ap (left f stamp) (c.executed.ensures ∙ ap (λ t. executed t fill size o) c.in-session-session.ensures) in
+    let after : c.order_after-after.result ≡ left_of b o size fill f =
+    c.order_after-after.ensures ∙ ap (λ g. left g stamp c.executed.result) is ∙
+    ap (left f stamp) (c.executed.ensures ∙ ap (λ t. executed t fill size o) c.in_session-session.ensures) in
     let orders : items c.put.new.table ≡ replace n (left_of b o size fill f) os =
-    c.put.ensures ∙ ap (λ t. put_at t c.order-after-after.result os) at ∙ ap (λ r. put_at (position_of n os) r os) after ∙
+    c.put.ensures ∙ ap (λ t. put_at t c.order_after-after.result os) at ∙ ap (λ r. put_at (position_of n os) r os) after ∙
     put-position n (left_of b o size fill f) k m os a in
     let reserves : items c.put-2.new.table ≡ put_at (position_of n os) (reserve_after f (h n)) rs =
-    c.put-2.ensures ∙ ap (λ t. put_at t c.reserve-after.result (items c.args.reserves.now)) at ∙
+    c.put-2.ensures ∙ ap (λ t. put_at t c.reserve_after.result (items c.args.reserves.now)) at ∙
     ap (λ r. put_at (position_of n os) r (items c.args.reserves.now))
-    (c.reserve-after.ensures ∙ ap (λ g. reserve_after g c.reserve-at-reserve.result) is ∙ ap (reserve_after f) reserve) ∙
+    (c.reserve_after.ensures ∙ ap (λ g. reserve_after g c.reserve_at-reserve.result) is ∙ ap (reserve_after f) reserve) ∙
     ap (put_at (position_of n os) (reserve_after f (h n))) (sym e) in
     let counters : ℕ → Counters = λ x. record {
       number = b.counters.number;
@@ -55,11 +55,11 @@ returns c k m h room a i e =
     let completion : Completion = record { fill = fill; number = b.counters.number } in
     record {
       board =
-          same-board orders (ap counters (c.stamp-after-board.ensures room ∙ ap (λ g. stamp_after g stamp) is)) refl
-          (c.note-completion.ensures ∙
-          ap (λ g. completions_after g c.in-session-session.result o.trader o.side completion b.completions) is ∙
-          ap (λ t. completions_after f t o.trader o.side completion b.completions) c.in-session-session.ensures)
-          (c.end-privilege.ensures ∙ ap (λ g. privileges_after g o b.privileges) is);
+          same-board orders (ap counters (c.stamp_after-board.ensures room ∙ ap (λ g. stamp_after g stamp) is)) refl
+          (c.note_completion.ensures ∙
+          ap (λ g. completions_after g c.in_session-session.result o.trader o.side completion b.completions) is ∙
+          ap (λ t. completions_after f t o.trader o.side completion b.completions) c.in_session-session.ensures)
+          (c.end_privilege.ensures ∙ ap (λ g. privileges_after g o b.privileges) is);
       order = after;
       reserves = ap (each (reserve_of (drawn_from h o f))) orders ∙
           reserves-left h f stamp (in_session b.phase) fill size o k m os a ∙ sym reserves;

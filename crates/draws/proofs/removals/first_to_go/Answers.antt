@@ -10,12 +10,12 @@ test session o = must_go session o.kind o.filled
 pub loop-order-preserved : goal.loop-order-preserved
 loop-order-preserved c =
     c.loop-order.invariant ∙
-    find-no (test c.args.session) c.args.orders.now c.loop-order.order-index _ c.loop-order-test.true (sym c.if-must-go.ensures)
+    find-no (test c.args.session) c.args.orders.now c.loop-order.order-index _ c.loop-order-test.true (sym c.if-must_go.ensures)
 
-pub returns-then-must-go : goal.returns-then-must-go
-returns-then-must-go c =
+pub returns-then-must_go : goal.returns-then-must_go
+returns-then-must_go c =
     sym (c.loop-order.invariant ∙
-    find-yes (test c.args.session) c.args.orders.now c.loop-order.order-index _ c.loop-order-test.true (sym c.if-must-go.ensures))
+    find-yes (test c.args.session) c.args.orders.now c.loop-order.order-index _ c.loop-order-test.true (sym c.if-must_go.ensures))
 
 pub returns : goal.returns
 returns c =

@@ -12,12 +12,12 @@ first_goes : (b : Board) (s : Bool) (os : List Order) (r x : Option Order) → r
 unfolding goes
 first_goes b s os r x w e f h = sym w ∙ h ∙ ap (λ t. find (λ o. must_go t o.kind o.filled) os) e ∙ ap (find (goes b)) f
 
-pub returns-in-err-order : goal.returns-in-err-order
-returns-in-err-order c =
-    c.from-residual.ensures ∙
-    ap with_cause (first_goes (board_of c.args.board.now) c.in-session.result c.items.result.now c.first-to-go.result _ c.in-err-order.was c.in-session.ensures c.items.ensures.value c.first-to-go.ensures)
+pub returns-in_err-order : goal.returns-in_err-order
+returns-in_err-order c =
+    c.from_residual.ensures ∙
+    ap with_cause (first_goes (board_of c.args.board.now) c.in_session.result c.items.result.now c.first_to_go.result _ c.in_err-order.was c.in_session.ensures c.items.ensures.value c.first_to_go.ensures)
 
 pub returns : goal.returns
 returns c =
-    ap (λ (w : Cause). Some (c.in-ok-order.order, w)) c.cause-of.ensures ∙
-    ap with_cause (first_goes (board_of c.args.board.now) c.in-session.result c.items.result.now c.first-to-go.result _ c.in-ok-order.was c.in-session.ensures c.items.ensures.value c.first-to-go.ensures)
+    ap (λ (w : Cause). Some (c.in_ok-order.order, w)) c.cause_of.ensures ∙
+    ap with_cause (first_goes (board_of c.args.board.now) c.in_session.result c.items.result.now c.first_to_go.result _ c.in_ok-order.was c.in_session.ensures c.items.ensures.value c.first_to_go.ensures)

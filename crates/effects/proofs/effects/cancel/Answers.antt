@@ -22,6 +22,6 @@ pub returns : goal.returns
 unfolding cancelled_board struck_board
 returns c =
     record {
-      board = λ k m a. same-board refl c.await-draws.ensures refl refl refl refl ∙ ap waiting (c.strike.ensures.board k m a);
+      board = λ k m a. same-board refl c.await_draws.ensures refl refl refl refl ∙ ap waiting (c.strike.ensures.board k m a);
       reserves = c.strike.ensures.reserves;
     }

@@ -27,11 +27,11 @@ returns c =
     let s = b.counters.stamp in
     let os = b.orders in
     let rs = items c.args.reserves.now in
-    let after = c.changed-order-after.result in
+    let after = c.changed_order-after.result in
     let fits : SFits w32 d.price = search rules in
     let written : List Order = items c.put.new.table in
     let is : after ≡ changed d (takes_stamp d o) s o =
-    c.changed-order-after.ensures ∙ ap (λ (q : Bool). changed d q s o) c.takes-stamp-anew.ensures in
+    c.changed_order-after.ensures ∙ ap (λ (q : Bool). changed d q s o) c.takes_stamp-anew.ensures in
     let at : c.position-row.result ≡ position_of n os = c.position-row.ensures ∙ ap (position_of n) c.items.ensures.value in
     let placed : (k m : ℕ) → Ascends k m os → written ≡ replace n (Some after) os =
     λ k m a. c.put.ensures ∙ ap (λ (r : Option ℕ). put_at r (Some after) os) at ∙ put-position n (Some after) k m os a in
@@ -41,11 +41,11 @@ returns c =
     record {
       order = is;
       board = λ k m bounds a.
-          let more = one_more s 18446744073709551615 c.saturating-add.ensures (omega (arith, bounds.stamp)) in
-          let stamp : c.stamp-of.result ≡ cond (takes_stamp d o) (s + 1) s =
-          c.stamp-of.ensures ∙ ap (λ (t : ℕ). cond c.takes-stamp-anew.result t s) more ∙ ap (λ (q : Bool). cond q (s + 1) s) c.takes-stamp-anew.ensures in
-          let writes = one_more x.counters.writes 4294967295 c.saturating-add-2.ensures (omega (arith, bounds.writes, ap (λ (y : Counters). y.writes) same)) in
-          same-board refl c.await-draws.ensures (same-counts refl stamp writes refl) refl refl refl ∙
+          let more = one_more s 18446744073709551615 c.saturating_add.ensures (omega (arith, bounds.stamp)) in
+          let stamp : c.stamp_of.result ≡ cond (takes_stamp d o) (s + 1) s =
+          c.stamp_of.ensures ∙ ap (λ (t : ℕ). cond c.takes_stamp-anew.result t s) more ∙ ap (λ (q : Bool). cond q (s + 1) s) c.takes_stamp-anew.ensures in
+          let writes = one_more x.counters.writes 4294967295 c.saturating_add-2.ensures (omega (arith, bounds.writes, ap (λ (y : Counters). y.writes) same)) in
+          same-board refl c.await_draws.ensures (same-counts refl stamp writes refl) refl refl refl ∙
           changed-board b x d o written (placed k m a ∙ ap (λ (p : Order). replace n (Some p) os) is) forfeited;
       reserves = λ k m h a e.
           ap (each (reserve_of (write n d.reserve h))) (ap (λ (y : Board). y.orders) forfeited ∙ placed k m a) ∙

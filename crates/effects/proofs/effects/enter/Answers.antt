@@ -14,7 +14,7 @@ pub returns : goal.returns
 returns c =
     let b = board_of c.args.board.now in
     let x = board_of c.claim.new.board in
-    let o = c.new-order-order.result in
+    let o = c.new_order-order.result in
     let w = c.args.wanted.now in
     let rs = items c.args.reserves.now in
     let kept : x.orders ≡ b.orders = ap (λ (y : Board). y.orders) c.claim.ensures in
@@ -22,17 +22,17 @@ returns c =
     let grown : length b.orders < 128 → items c.push.new.self ≡ x.orders ++ (o ∷ []) =
     λ l. pushed x.orders _ o 128 c.push.ensures (omega (arith, ap length kept)) in
     record {
-      order = c.new-order-order.ensures;
+      order = c.new_order-order.ensures;
       board = λ bounds l.
-          let number = one_more x.counters.number 4294967295 c.saturating-add.ensures (omega (arith, bounds.number, ap (λ (y : Counters). y.number) same)) in
-          let stamp = one_more x.counters.stamp 18446744073709551615 c.saturating-add-2.ensures (omega (arith, bounds.stamp, ap (λ (y : Counters). y.stamp) same)) in
-          let writes = one_more x.counters.writes 4294967295 c.saturating-add-3.ensures (omega (arith, bounds.writes, ap (λ (y : Counters). y.writes) same)) in
-          same-board (grown l) c.await-draws.ensures (same-counts number stamp writes refl) refl refl refl ∙
-          entered-board b x w o c.new-order-order.ensures c.claim.ensures;
+          let number = one_more x.counters.number 4294967295 c.saturating_add.ensures (omega (arith, bounds.number, ap (λ (y : Counters). y.number) same)) in
+          let stamp = one_more x.counters.stamp 18446744073709551615 c.saturating_add-2.ensures (omega (arith, bounds.stamp, ap (λ (y : Counters). y.stamp) same)) in
+          let writes = one_more x.counters.writes 4294967295 c.saturating_add-3.ensures (omega (arith, bounds.writes, ap (λ (y : Counters). y.writes) same)) in
+          same-board (grown l) c.await_draws.ensures (same-counts number stamp writes refl) refl refl refl ∙
+          entered-board b x w o c.new_order-order.ensures c.claim.ensures;
       reserves = λ k h l a e.
           let n = b.counters.number in
           let few : length rs < 128 = omega (arith, ap length e, each-length (reserve_of h) b.orders) in
           ap (each (reserve_of (write n w.reserve h))) (grown l ∙ ap (λ (os : List Order). os ++ (o ∷ [])) kept) ∙
-          reserves-more n w.reserve h k b.orders o (entered-number w n b.counters.stamp b c.new-order-order.ensures) a ∙
+          reserves-more n w.reserve h k b.orders o (entered-number w n b.counters.stamp b c.new_order-order.ensures) a ∙
           ap (λ (ys : List ℕ). ys ++ (w.reserve ∷ [])) e ∙ sym (pushed rs _ w.reserve 128 c.push-2.ensures few);
     }

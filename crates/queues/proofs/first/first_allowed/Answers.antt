@@ -18,31 +18,31 @@ loop-n-preserved g c w =
     let xs = g.L.Line.entries c.args.line.now in
     let f = choice (allowed c.args.entitlement.now) g.T.OfOrder.number c.args.orders.now in
     let i = c.loop-n.invariant w in
-    let h = here xs c.loop-n.-n c.in-Some.rank (sym c.in-Some.is ∙ i.0) in
-    let rest = walk f (drop (c.loop-n.-n + 1) xs) in (
-      c.next-at.ensures.value w ∙ onward t xs (c.next-at.ensures.ordered w) c.loop-n.-n c.in-Some.rank h,
-      i.1 ∙ ap (walk f) h.rest ∙ ap (λ (r : Option Order). or_next r rest) (sym c.allowed-order.ensures ∙ c.in-default-allowed-order.is),
+    let h = here xs c.loop-n._n c.in-Some.rank (sym c.in-Some.is ∙ i.0) in
+    let rest = walk f (drop (c.loop-n._n + 1) xs) in (
+      c.next-at.ensures.value w ∙ onward t xs (c.next-at.ensures.ordered w) c.loop-n._n c.in-Some.rank h,
+      i.1 ∙ ap (walk f) h.rest ∙ ap (λ (r : Option Order). or_next r rest) (sym c.allowed_order.ensures ∙ c.in_default-allowed_order.is),
     )
 
-pub returns-in-default : goal.returns-in-default
-returns-in-default g c w =
+pub returns-in_default : goal.returns-in_default
+returns-in_default g c w =
     let xs = g.L.Line.entries c.args.line.now in
     let f = choice (allowed c.args.entitlement.now) g.T.OfOrder.number c.args.orders.now in
     let i = c.loop-n.invariant w in
-    sym (i.1 ∙ ap (walk f) (nothing xs c.loop-n.-n (sym c.in-default.is ∙ i.0)))
+    sym (i.1 ∙ ap (walk f) (nothing xs c.loop-n._n (sym c.in_default.is ∙ i.0)))
 
-pub returns-in-Some-allowed-order : goal.returns-in-Some-allowed-order
-returns-in-Some-allowed-order g c w =
+pub returns-in-Some-allowed_order : goal.returns-in-Some-allowed_order
+returns-in-Some-allowed_order g c w =
     let xs = g.L.Line.entries c.args.line.now in
     let f = choice (allowed c.args.entitlement.now) g.T.OfOrder.number c.args.orders.now in
     let i = c.loop-n.invariant w in
-    let h = here xs c.loop-n.-n c.in-Some.rank (sym c.in-Some.is ∙ i.0) in
-    let rest = walk f (drop (c.loop-n.-n + 1) xs) in
-    sym (i.1 ∙ ap (walk f) h.rest ∙ ap (λ (r : Option Order). or_next r rest) (sym c.allowed-order.ensures ∙ c.in-Some-allowed-order.is))
+    let h = here xs c.loop-n._n c.in-Some.rank (sym c.in-Some.is ∙ i.0) in
+    let rest = walk f (drop (c.loop-n._n + 1) xs) in
+    sym (i.1 ∙ ap (walk f) h.rest ∙ ap (λ (r : Option Order). or_next r rest) (sym c.allowed_order.ensures ∙ c.in-Some-allowed_order.is))
 
 pub returns : goal.returns
 returns g c w =
     let xs = g.L.Line.entries c.args.line.now in
     let f = choice (allowed c.args.entitlement.now) g.T.OfOrder.number c.args.orders.now in
     let i = c.loop-n.invariant w in
-    sym (i.1 ∙ ap (walk f) (drop_all c.loop-n.-n xs (omega (arith, c.count-n-end.ensures.value w))))
+    sym (i.1 ∙ ap (walk f) (drop_all c.loop-n._n xs (omega (arith, c.count-n-end.ensures.value w))))

@@ -16,41 +16,41 @@ loop-n-preserved g c =
     let price = g.T.Ranked.price in
     let shown = displayed_by g.T.OfOrder.number c.args.orders.now in
     let p = to_z w32 (of_z w32 c.args.price) in
-    let n = c.loop-n.-n in
+    let n = c.loop-n._n in
     let x = c.in-Some.rank in
     let size = c.from-total.ensures in (
-      omega (arith, c.loop-n.invariant.0, size, c.displayed.type-inv),
+      omega (arith, c.loop-n.invariant.0, size, c.displayed.type_inv),
       λ w.
           let i = c.loop-n.invariant.1 w in
           let h = here xs n x (sym c.in-Some.is ∙ i.0) in
-          let more = shown-more price shown 8 n p xs x h c.loop-n-test.true (sym c.is-at.ensures ∙ c.if-not-is-at.false) in
+          let more = shown-more price shown 8 n p xs x h c.loop-n-test.true (sym c.is_at.ensures ∙ c.if-not-is_at.false) in
           (c.next-at.ensures.value w ∙ onward t xs (c.next-at.ensures.ordered w) n x h, omega (arith, i.1, more, size, c.displayed.ensures)),
     )
 
-pub returns-in-default : goal.returns-in-default
-returns-in-default g c w =
+pub returns-in_default : goal.returns-in_default
+returns-in_default g c w =
     let xs = g.L.Line.entries c.args.line.now in
     let price = g.T.Ranked.price in
     let shown = displayed_by g.T.OfOrder.number c.args.orders.now in
     let p = to_z w32 (of_z w32 c.args.price) in
-    let n = c.loop-n.-n in
+    let n = c.loop-n._n in
     let back : shown_at price shown 8 p xs ≡ shown_at price shown 8 c.args.price xs = ap (λ (v : ℤ). shown_at price shown 8 v xs) (to_z-of_z w32 c.args.price c.ranges.price) in
     let i = c.loop-n.invariant.1 w in
-    let end = shown-end price shown 8 n p xs (nothing xs n (sym c.in-default.is ∙ i.0)) in
+    let end = shown-end price shown 8 n p xs (nothing xs n (sym c.in_default.is ∙ i.0)) in
     omega (arith, i.1, end, back)
 
-pub returns-then-not-is-at : goal.returns-then-not-is-at
-returns-then-not-is-at g c w =
+pub returns-then-not-is_at : goal.returns-then-not-is_at
+returns-then-not-is_at g c w =
     let xs = g.L.Line.entries c.args.line.now in
     let price = g.T.Ranked.price in
     let shown = displayed_by g.T.OfOrder.number c.args.orders.now in
     let p = to_z w32 (of_z w32 c.args.price) in
-    let n = c.loop-n.-n in
+    let n = c.loop-n._n in
     let back : shown_at price shown 8 p xs ≡ shown_at price shown 8 c.args.price xs = ap (λ (v : ℤ). shown_at price shown 8 v xs) (to_z-of_z w32 c.args.price c.ranges.price) in
     let i = c.loop-n.invariant.1 w in
     let x = c.in-Some.rank in
     let h = here xs n x (sym c.in-Some.is ∙ i.0) in
-    let stop = shown-stop price shown 8 n p xs x h c.loop-n-test.true (sym c.is-at.ensures ∙ c.if-not-is-at.true) in
+    let stop = shown-stop price shown 8 n p xs x h c.loop-n-test.true (sym c.is_at.ensures ∙ c.if-not-is_at.true) in
     omega (arith, i.1, stop, back)
 
 pub returns : goal.returns
@@ -59,7 +59,7 @@ returns g c w =
     let price = g.T.Ranked.price in
     let shown = displayed_by g.T.OfOrder.number c.args.orders.now in
     let p = to_z w32 (of_z w32 c.args.price) in
-    let n = c.loop-n.-n in
+    let n = c.loop-n._n in
     let back : shown_at price shown 8 p xs ≡ shown_at price shown 8 c.args.price xs = ap (λ (v : ℤ). shown_at price shown 8 v xs) (to_z-of_z w32 c.args.price c.ranges.price) in
     let i = c.loop-n.invariant.1 w in
     let all = shown-all price shown 8 n p xs c.loop-n-test.false in

@@ -8,5 +8,5 @@ abbrev pub invariant-loop-n : goal.invariant-loop-n
 invariant-loop-n g l =
     let xs = g.L.Line.entries l.line in
     let shown = shown_at g.T.Ranked.price (displayed_by g.T.OfOrder.number l.orders) in
-    (l.total ≤ 4294967295 * l.-n) ×
-    (g.L.Line.sound l.line → (l.at ≡ first_of (drop l.-n xs)) × (l.total + shown (8 - l.-n) l.price (drop l.-n xs) ≡ shown 8 l.price xs))
+    (l.total ≤ 4294967295 * l._n) ×
+    (g.L.Line.sound l.line → (l.at ≡ first_of (drop l._n xs)) × (l.total + shown (8 - l._n) l.price (drop l._n xs) ≡ shown 8 l.price xs))

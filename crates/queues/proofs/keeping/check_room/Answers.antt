@@ -8,7 +8,7 @@ pub returns : goal.returns
 returns g c =
     let t : TotalOrder g.T.Entry.ahead = record { irreflexive = g.met.T.Entry.irreflexive; total = g.met.T.Entry.total; transitive = g.met.T.Entry.transitive } in
     let l = c.args.line.now in
-    let r = c.room-left.ensures ∙ ap (λ (n : ℕ). room_answer n c.count.result) c.room.ensures in
+    let r = c.room_left.ensures ∙ ap (λ (n : ℕ). room_answer n c.count.result) c.room.ensures in
     record {
       answer = λ w. r ∙ ap (room_answer (g.L.Line.room l)) (c.count.ensures.value w);
       listed = λ b os m a w.

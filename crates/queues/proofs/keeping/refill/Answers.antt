@@ -17,11 +17,11 @@ pub loop-order-preserved : goal.loop-order-preserved
 loop-order-preserved g c =
     let e = g.T.Listed.listing (board_of c.args.board.now) in
     let inv = c.loop-order.invariant in
-    let p = c.put-entry.ensures in (
+    let p = c.put_entry.ensures in (
       p.room ∙ inv.0,
       p.sound inv.1,
       filled_more g.T.Entry.ahead e (g.L.Line.room c.clear.new.self) (g.L.Line.room c.loop-order.line) c.items-orders.result.now c.loop-order.order-index _ c.of.result
-          (g.L.Line.entries c.loop-order.line) (g.L.Line.entries c.put-entry.new.line) _ c.loop-order-test.true c.of.ensures inv.0 (p.entries inv.1) inv.2,
+          (g.L.Line.entries c.loop-order.line) (g.L.Line.entries c.put_entry.new.line) _ c.loop-order-test.true c.of.ensures inv.0 (p.entries inv.1) inv.2,
     )
 
 pub returns : goal.returns

@@ -11,6 +11,6 @@ pub returns-in-0 : goal.returns-in-0
 unfolding remainder
 returns-in-0 c = grind (arith, nat_tests)
 
-pub returns-in-default : goal.returns-in-default
+pub returns-in_default : goal.returns-in_default
 unfolding remainder
-returns-in-default c = grind (arith, nat_tests)
+returns-in_default c = grind (arith, nat_tests)
