@@ -8,7 +8,7 @@ use Rattle.market.specs.Ranks.{end_ahead}
 use Rattle.market.specs.declared.order.Order.{Order}
 use Rattle.market.specs.declared.rank.EndTime.{EndTime}
 use Rattle.rules.specs.Base.{first, contest}
-use Rattle.rules.specs.Draws.{due_by, ends_by, before, ends_sooner, ending_at, with_end, expiring}
+use Rattle.rules.specs.Draws.{due_by, ends_by, ends_sooner, ending_at, with_end, expiring}
 use Rattle.rules.specs.Members.{In}
 use Rattle.rules.specs.Rising.{Ascends}
 use Rattle.rules.proofs.Firsts.{first-in}

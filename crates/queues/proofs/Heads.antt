@@ -1,5 +1,5 @@
 -- The head of what a line shows: the side's best price, and its first order. Assumes nothing.
-use Rattle.std.proofs.Common.{◌≡◌, Bool, true, false, ◌⊎◌, List, [], ◌∷◌, ℤ, Some, None, Option, sym, refl, ap, ◌∙◌, subst, inl, inr, ⊎_elim}
+use Rattle.std.proofs.Common.{◌≡◌, Bool, true, false, ◌⊎◌, List, [], ◌∷◌, ℤ, Some, None, Option, sym, refl, ap, ◌∙◌, inl, inr, ⊎_elim}
 use Rattle.std.proofs.lemmas.Bool.{and_parts}
 use Rattle.line.specs.Held.{Ordered, leads, in_order, first_of}
 use Rattle.market.specs.declared.order.Side.{Side}
@@ -7,8 +7,8 @@ use Rattle.market.specs.declared.order.Order.{Order}
 use Rattle.rules.specs.Base.{is_some}
 use Rattle.rules.specs.Board.{on, better, best}
 use Rattle.rules.specs.Members.{In}
-use Rattle.rules.proofs.Prices.{IsBest, best_none, best-some, better-self, better-even}
-use Rattle.rules.proofs.Tests.{same_true, eq-same, is-some, some_inj, none≢some}
+use Rattle.rules.proofs.Prices.{best_none, best-some, better-self, better-even}
+use Rattle.rules.proofs.Tests.{same_true, eq-same, is-some}
 use Rattle.queues.specs.Lists.{Shows}
 use Rattle.queues.specs.Walks.{price_of}
 use Rattle.queues.proofs.Held.{led}

@@ -2,7 +2,7 @@
 use Rattle.std.proofs.Common.{◌≡◌, ◌<◌, ◌≤◌, Bool, true, false, cond, not, ◌||◌, ◌⊎◌, List, [], ◌∷◌, length, sym, refl, ap, ◌∙◌, subst, inl, inr, ⊎_elim, arith}
 use Rattle.std.proofs.lemmas.Bool.{both_ways, cases_Bool, cond_both, and_parts, or_right, or_left}
 use Rattle.line.specs.Order.{Order as TotalOrder}
-use Rattle.line.specs.Held.{Ordered, leads, in_order, holds, with_entry, without}
+use Rattle.line.specs.Held.{leads, holds, with_entry, without}
 use Rattle.rules.specs.Members.{In}
 
 module _ {X : Type 0} (ahead : X → X → Bool) where

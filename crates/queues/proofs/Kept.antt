@@ -1,5 +1,5 @@
 -- A line after one change lists the orders after it. Assumes nothing.
-use Rattle.std.proofs.Common.{◌≡◌, ℕ, ◌+◌, ◌<◌, ◌≤◌, Bool, true, List, [], ◌∷◌, ◌++◌, length, get_or, drop, Some, None, Option, sym, refl, ap, ◌∙◌, subst, arith}
+use Rattle.std.proofs.Common.{◌≡◌, ℕ, ◌+◌, ◌<◌, ◌≤◌, Bool, List, [], ◌∷◌, ◌++◌, length, get_or, drop, None, Option, sym, refl, ap, ◌∙◌, subst, arith}
 use Rattle.std.proofs.lemmas.List.{drop_more, drop_all}
 use Rattle.line.specs.Order.{Order as TotalOrder}
 use Rattle.line.specs.declared.lines.Line.{Ghosts}
@@ -8,10 +8,10 @@ use Rattle.rules.specs.Base.{is_some, each, count}
 use Rattle.rules.specs.Board.{Board}
 use Rattle.rules.specs.Fills.{replace}
 use Rattle.rules.specs.Members.{In}
-use Rattle.rules.specs.Rising.{Ascends, Keeps}
+use Rattle.rules.specs.Rising.{Ascends}
 use Rattle.rules.proofs.Rows.{ascends-in}
 use Rattle.queues.specs.Lists.{Shows, Lists}
-use Rattle.queues.specs.Changes.{added, taken, filled, entry_of, Enlists, Unlists, Relists, Refills}
+use Rattle.queues.specs.Changes.{added, taken, filled, Enlists, Unlists, Relists, Refills}
 use Rattle.queues.proofs.Shown.{Named, Fitting, Covers, having, push-joins, shows-pass, alike-covers, fitting-added, fitting-taken, fitting-replaced, fitting-filled}
 use Rattle.queues.proofs.Sized.{sized, count-alike}
 

@@ -3,7 +3,7 @@ use Rattle.std.proofs.Common.{◌≡◌, ℕ, suc, ◌+◌, ◌<◌, ◌≤◌, 
 use Rattle.std.proofs.lemmas.List.{append-nil, append_assoc}
 use Rattle.std.proofs.lemmas.Bool.{false≢true, cond_both}
 use Rattle.line.specs.Order.{Order as TotalOrder}
-use Rattle.line.specs.Held.{Ordered, holds, with_entry, without}
+use Rattle.line.specs.Held.{holds, with_entry, without}
 use Rattle.line.specs.Answers.{put_answer, take_answer}
 use Rattle.line.specs.declared.lines.LineFault.TheVariants.{NotHeld}
 use Rattle.line.proofs.Chains.{ordered-with, ordered-without}
@@ -15,7 +15,7 @@ use Rattle.rules.specs.Fills.{replace}
 use Rattle.rules.specs.Members.{In}
 use Rattle.rules.specs.Rising.{Ascends, Keeps}
 use Rattle.rules.proofs.Members.{in-each, each_in, in-push, push-in}
-use Rattle.rules.proofs.Rows.{ascends-in, ascends-unique, in-replace, replace-in, replaced-in}
+use Rattle.rules.proofs.Rows.{ascends-unique, in-replace, replace-in, replaced-in}
 use Rattle.rules.proofs.Tests.{some_inj, none≢some}
 use Rattle.queues.specs.Lists.{Shows}
 use Rattle.queues.specs.Changes.{added, taken, filled, entry_of}

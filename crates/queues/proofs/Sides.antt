@@ -1,5 +1,5 @@
 -- The entries of bids, of offers and of ends: who has one, and that there is room for them. Assumes nothing.
-use Rattle.std.proofs.Common.{◌≡◌, ℕ, ◌≤◌, Bool, true, false, ltb, ◌⊎◌, List, Some, None, Option, sym, refl, ap, ◌∙◌, inl, inr}
+use Rattle.std.proofs.Common.{◌≡◌, ℕ, ◌≤◌, Bool, true, false, ltb, List, Some, None, Option, sym, refl, ap, ◌∙◌}
 use Rattle.line.specs.Order.{Order as TotalOrder}
 use Rattle.line.specs.declared.lines.Line.{Ghosts}
 use Rattle.line.proofs.Orders.{lower-on}

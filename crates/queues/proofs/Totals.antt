@@ -8,13 +8,13 @@ use Rattle.market.specs.declared.order.Side.{Side}
 use Rattle.market.specs.declared.order.Order.{Order}
 use Rattle.market.specs.declared.answer.Summary.{Summary}
 use Rattle.rules.specs.Base.{eq_z, is_some, first}
-use Rattle.rules.specs.Board.{Board, on, better, best, ordered}
+use Rattle.rules.specs.Board.{Board, on, better, best}
 use Rattle.rules.specs.Standings.{ahead}
 use Rattle.rules.specs.Fills.{replace, displayed_of}
 use Rattle.rules.specs.Summaries.{without as less_order, total, summary_at, summary}
 use Rattle.rules.specs.Members.{In}
 use Rattle.rules.specs.Rising.{Ascends}
-use Rattle.rules.proofs.Prices.{IsBest, best-some, better-even}
+use Rattle.rules.proofs.Prices.{best-some, better-even}
 use Rattle.rules.proofs.Rows.{ascends-replace}
 use Rattle.rules.proofs.Tests.{eq_z-true, eq-eq_z, eq_z-false, same_true, eq-same}
 use Rattle.queues.specs.Lists.{Shows}

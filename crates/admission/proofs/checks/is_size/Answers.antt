@@ -2,7 +2,7 @@ use Rattle.std.proofs.Common.{◌≡◌, ℕ, ◌%◌, Bool, ◌&&◌, eqb, leb,
 use Rattle.std.proofs.lemmas.Bool.{eq-eqb, ne_eqb}
 use Rattle.market.specs.Tenors.{lot_of}
 use Rattle.market.specs.declared.settings.Settings.{Settings}
-use Rattle.rules.specs.Board.{Opening, lot}
+use Rattle.rules.specs.Board.{Opening}
 use Rattle.rules.specs.Refusing.{is_size}
 use Rattle.admission.proofs.checks.is_size.Goals as goal
 

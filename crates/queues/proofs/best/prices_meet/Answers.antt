@@ -1,4 +1,4 @@
-use Rattle.std.proofs.Common.{◌≡◌, ℤ, Option, sym, refl, ap, ◌∙◌}
+use Rattle.std.proofs.Common.{ℤ, Option, ap, ◌∙◌}
 use Rattle.market.specs.declared.order.Side.TheVariants.{Bid}
 use Rattle.rules.specs.Board.{best, cross, meet}
 use Rattle.queues.proofs.best.prices_meet.Goals as goal

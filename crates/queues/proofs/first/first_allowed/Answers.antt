@@ -1,7 +1,6 @@
-use Rattle.std.proofs.Common.{◌≡◌, ◌+◌, drop, Option, sym, refl, ap, ◌∙◌, arith}
+use Rattle.std.proofs.Common.{◌+◌, drop, Option, sym, refl, ap, ◌∙◌, arith}
 use Rattle.std.proofs.lemmas.List.{drop_all}
 use Rattle.line.specs.Order.{Order as TotalOrder}
-use Rattle.line.specs.Held.{first_of}
 use Rattle.market.specs.declared.order.Order.{Order}
 use Rattle.rules.specs.Base.{or_next}
 use Rattle.board.specs.Entitlements.{allowed}

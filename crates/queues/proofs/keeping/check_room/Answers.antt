@@ -1,4 +1,4 @@
-use Rattle.std.proofs.Common.{◌≡◌, ℕ, length, ap, ◌∙◌}
+use Rattle.std.proofs.Common.{ℕ, ap, ◌∙◌}
 use Rattle.line.specs.Order.{Order as TotalOrder}
 use Rattle.queues.specs.Changes.{room_answer}
 use Rattle.queues.proofs.Kept.{lists_length}

@@ -1,4 +1,4 @@
-use Rattle.std.proofs.Common.{zero-le, arith}
+use Rattle.std.proofs.Common.{arith}
 use lib.ListN.{length-replicate}
 use Rattle.table.proofs.fixed.Table.new.Goals as goal
 
