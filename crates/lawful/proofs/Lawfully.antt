@@ -1,14 +1,11 @@
 -- The answers that the rules define keep the three laws. Assumes nothing.
-use Rattle.std.proofs.Common.{◌≡◌, ℕ, zero, suc, ◌+◌, List, [], ◌∷◌, ◌++◌, length, drop, sym, refl, ap, ◌∙◌, subst, arith}
-use Rattle.std.specs.List.{AllZip}
-use Rattle.market.specs.declared.record.Record.{Record}
+use Rattle.std.proofs.Common.{◌≡◌, ℕ, suc, List, [], ◌∷◌, ◌++◌, length, drop, sym, refl, ap, ◌∙◌, subst, arith}
 use Rattle.market.specs.declared.call.Call.{Call}
 use Rattle.market.specs.declared.call.Call.TheVariants.{Draw}
 use Rattle.market.specs.declared.answer.Answer.{Answer}
 use Rattle.market.specs.declared.answer.Answer.TheVariants.{Drawn}
-use Rattle.rules.specs.Board.{Opening, Board, State}
+use Rattle.rules.specs.Board.{Opening, State}
 use Rattle.rules.specs.Calls.{step, run, answers, opened}
-use Rattle.laws.specs.Fair.{FairAt}
 use Rattle.laws.specs.Hidden.{Lesson, learned}
 use Rattle.laws.proofs.Fairly.{fair}
 use Rattle.laws.proofs.Hiding.{hidden}

@@ -1,5 +1,5 @@
 -- Runs that the model in another language answered, recorded by its script. Assumes nothing.
-use Rattle.std.specs.Prelude.{◌≡◌, List, [], ◌∷◌, ℤ, pos, negsuc, Some, None, refl}
+use Rattle.std.specs.Prelude.{◌≡◌, List, [], ◌∷◌, pos, negsuc, Some, None, refl}
 use Rattle.market.specs.declared.order.Side.TheVariants.{Bid, Offer}
 use Rattle.market.specs.declared.order.OrderType.TheVariants.{FaS, FaK, FaKI}
 use Rattle.market.specs.declared.call.Call.{Call}

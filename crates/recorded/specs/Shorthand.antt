@@ -9,7 +9,7 @@ use Rattle.market.specs.declared.record.Cause.TheVariants.{FaKI, FaK, End}
 use Rattle.market.specs.declared.record.Record.{Record}
 use Rattle.market.specs.declared.record.Record.TheVariants.{Quiet, Fill, Session, Rolling, Fbs, Open, Removal}
 use Rattle.market.specs.declared.call.Call.{Call}
-use Rattle.market.specs.declared.call.Call.TheVariants.{Entry, Change, Cancel, Tick, Draw}
+use Rattle.market.specs.declared.call.Call.TheVariants.{Entry, Change, Cancel}
 use Rattle.market.specs.declared.answer.Answer.{Answer}
 use Rattle.market.specs.declared.answer.Answer.TheVariants.{Refused, Entered, Done, Drawn}
 use Rattle.market.specs.declared.answer.Summary.{Summary}

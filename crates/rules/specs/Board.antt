@@ -1,6 +1,6 @@
 -- What a book is opened with, and its state: the board, which everybody may know, and the reserves, which are hidden.
 -- Assumes nothing.
-use Rattle.std.specs.Prelude.{ℕ, zero, suc, ◌+◌, ◌*◌, Bool, true, false, cond, not, ◌&&◌, List, [], ◌∷◌, ℤ, pos, Some, None, Option, ◌==◌, int_le, int_lt, slice_index_or, slice_set}
+use Rattle.std.specs.Prelude.{ℕ, zero, suc, ◌+◌, ◌*◌, Bool, true, false, cond, not, ◌&&◌, List, [], ◌∷◌, ℤ, Some, None, Option, ◌==◌, int_le, int_lt, slice_index_or, slice_set}
 use Rattle.market.specs.Tenors.{lot_of}
 use Rattle.market.specs.declared.settings.Settings.{Settings}
 use Rattle.market.specs.declared.order.Side.{Side}

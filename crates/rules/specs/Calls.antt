@@ -4,11 +4,9 @@ use Rattle.market.specs.declared.order.Side.TheVariants.{Bid}
 use Rattle.market.specs.declared.order.Order.{Order}
 use Rattle.market.specs.declared.state.Phase.TheVariants.{Open}
 use Rattle.market.specs.declared.state.Clock.{Clock}
-use Rattle.market.specs.declared.state.Counters.{Counters}
 use Rattle.market.specs.declared.state.Privilege.{Privilege}
 use Rattle.market.specs.declared.call.OrderEntry.{OrderEntry}
 use Rattle.market.specs.declared.call.OrderChange.{OrderChange}
-use Rattle.market.specs.declared.call.OrderCancel.{OrderCancel}
 use Rattle.market.specs.declared.call.Call.{Call}
 use Rattle.market.specs.declared.call.Call.TheVariants.{Entry, Change, Cancel, Tick, Draw}
 use Rattle.market.specs.declared.refusal.Refusal.{Refusal}

@@ -1,11 +1,9 @@
 -- What a fill does to its two orders and to the board. A reserve is read in `remainder` alone. Assumes nothing.
 use Rattle.std.specs.Prelude.{ℕ, ◌+◌, ◌-◌, min, Bool, true, false, cond, not, ◌&&◌, List, [], ◌∷◌, ℤ, Some, None, Option, ◌==◌}
 use Rattle.market.specs.declared.order.Side.{Side}
-use Rattle.market.specs.declared.order.Side.TheVariants.{Bid, Offer}
 use Rattle.market.specs.declared.order.Order.{Order}
 use Rattle.market.specs.declared.state.Phase.{Phase}
 use Rattle.market.specs.declared.state.Phase.TheVariants.{Open, Timed, Rolling, Fbs}
-use Rattle.market.specs.declared.state.Counters.{Counters}
 use Rattle.market.specs.declared.state.Session.{Session}
 use Rattle.market.specs.declared.state.Completion.{Completion}
 use Rattle.market.specs.declared.state.Privilege.{Privilege}

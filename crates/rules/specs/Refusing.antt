@@ -1,6 +1,5 @@
 -- Which calls the book refuses: of the tests that a call meets, in their order, the first that it fails. Assumes nothing.
 use Rattle.std.specs.Prelude.{ℕ, ◌%◌, Bool, true, false, cond, not, ◌&&◌, ◌||◌, List, [], ◌∷◌, length, ℤ, pos, neg_ℤ, Some, None, Option, ◌==◌, int_le, nat_le, nat_lt}
-use Rattle.std.specs.Int.Signed.{lt_z}
 use Rattle.line.specs.declared.lines.LineFault.TheVariants.{Full}
 use Rattle.market.specs.Tenors.{within}
 use Rattle.market.specs.declared.order.Side.{Side}

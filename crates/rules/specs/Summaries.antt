@@ -1,5 +1,5 @@
 -- The summary of a side. Assumes nothing.
-use Rattle.std.specs.Prelude.{ℕ, zero, suc, ◌+◌, Bool, ◌&&◌, List, ℤ, Some, None, Option}
+use Rattle.std.specs.Prelude.{ℕ, zero, suc, ◌+◌, ◌&&◌, List, ℤ, Some, None, Option}
 use Rattle.market.specs.declared.order.Side.{Side}
 use Rattle.market.specs.declared.order.Order.{Order}
 use Rattle.market.specs.declared.answer.Summary.{Summary}
