@@ -1,14 +1,14 @@
 -- Steps that leave orders and lines alone. Assumes nothing.
-use Rattle.std.proofs.Common.{◌≡◌, ℕ, sym, refl, ap, ◌∙◌}
+use Rattle.std.proofs.Common.{◌≡◌, sym, refl, ap, ◌∙◌}
 use Rattle.line.specs.declared.lines.Line.{Ghosts}
 use Rattle.market.specs.declared.rank.BidRank.{BidRank}
 use Rattle.market.specs.declared.rank.OfferRank.{OfferRank}
 use Rattle.market.specs.declared.rank.EndTime.{EndTime}
-use Rattle.rules.specs.Board.{Opening, Board, State}
+use Rattle.rules.specs.Board.{Opening, State}
 use Rattle.rules.specs.Standings.{standing}
 use Rattle.rules.specs.Draws.{rests, rested_board, board_after, hidden_after}
 use Rattle.table.specs.Items.{items}
-use Rattle.board.specs.Memory.{board_of, Reserved}
+use Rattle.board.specs.Memory.{board_of}
 use Rattle.memory.specs.declared.memory.Memory.{Memory}
 use Rattle.memory.specs.Shown.{Shows}
 use Rattle.memory.proofs.Showing.{Untouched, shows-still}

@@ -7,12 +7,11 @@ use Rattle.market.specs.declared.order.Order.{Order}
 use Rattle.market.specs.declared.state.Phase.{Phase}
 use Rattle.market.specs.declared.state.Phase.TheVariants.{Open, Timed, Rolling, Fbs}
 use Rattle.market.specs.declared.state.Privilege.{Privilege}
-use Rattle.market.specs.declared.rank.Standing.{Standing}
 use Rattle.market.specs.declared.rank.BidRank.{BidRank}
 use Rattle.market.specs.declared.rank.OfferRank.{OfferRank}
 use Rattle.market.specs.declared.rank.EndTime.{EndTime}
 use Rattle.market.specs.declared.record.Record.TheVariants.{Fill}
-use Rattle.rules.specs.Board.{Opening, Board, State, Table, on, same, in_session}
+use Rattle.rules.specs.Board.{Opening, Board, State, Table, on, in_session}
 use Rattle.rules.specs.Standings.{standing, standing_in}
 use Rattle.rules.specs.Entitlement.{entitled, entitled_in, first_entitled}
 use Rattle.rules.specs.Privileges.{lost}
@@ -22,7 +21,7 @@ use Rattle.rules.specs.Members.{In}
 use Rattle.rules.specs.Rising.{Ascends, Keeps}
 use Rattle.rules.proofs.Firsts.{first-in}
 use Rattle.rules.proofs.Reasons.{Why, why}
-use Rattle.rules.proofs.Rows.{ascends-unique, ascends-replace, in-replace, replace-in}
+use Rattle.rules.proofs.Rows.{ascends-unique, ascends-replace, replace-in}
 use Rattle.rules.proofs.Tests.{same_true}
 use Rattle.invariants.specs.Sound.{Sound}
 use Rattle.table.specs.Items.{items}
@@ -33,7 +32,7 @@ use Rattle.draws.specs.declared.fills.Filled.{Filled}
 use Rattle.memory.specs.declared.memory.Memory.{Memory}
 use Rattle.memory.specs.declared.entries.Entries.{Entries}
 use Rattle.memory.specs.Entries.{entries_of, afterwards}
-use Rattle.memory.specs.Shown.{opening_of, Queued, Shows, Relisted}
+use Rattle.memory.specs.Shown.{Queued, Shows, Relisted}
 use Rattle.memory.proofs.Bounds.{bounded}
 use Rattle.memory.proofs.Kept.{lost-unseen, standing-unseen}
 use Rattle.memory.proofs.Queues.{Alike, requeued, bid-same, offer-same, opening-relisted, opening-alone, queued-by}

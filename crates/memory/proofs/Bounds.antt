@@ -1,5 +1,5 @@
 -- No counter and no time of a sound state is near its type's end. Assumes nothing.
-use Rattle.std.proofs.Common.{ℕ, ◌+◌, ◌^◌, ◌<◌, ◌≤◌, arith}
+use Rattle.std.proofs.Common.{arith}
 use Rattle.rules.specs.Board.{Opening, State}
 use Rattle.invariants.specs.Sound.{Sound}
 use Rattle.invariants.proofs.Sounds.{stamp-small, fills-small}

@@ -3,7 +3,6 @@ use Rattle.std.proofs.Common.{◌≡◌, ℕ, ◌<◌, ◌≤◌, Bool, true, fa
 use Rattle.line.specs.declared.lines.Line.{Ghosts}
 use Rattle.market.specs.Ranks.{bid_ahead, offer_ahead, end_ahead}
 use Rattle.market.specs.declared.settings.Settings.{Settings}
-use Rattle.market.specs.declared.order.Side.{Side}
 use Rattle.market.specs.declared.order.Side.TheVariants.{Bid, Offer}
 use Rattle.market.specs.declared.order.Order.{Order}
 use Rattle.market.specs.declared.rank.Standing.{Standing}

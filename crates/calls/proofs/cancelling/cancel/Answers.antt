@@ -3,12 +3,12 @@ use Rattle.std.proofs.lemmas.Bool.{true≢false}
 use Rattle.calls.proofs.Cancels.{cancel-refused, cancel-done}
 use Rattle.calls.proofs.cancelling.cancel.Goals as goal
 
-pub returns-in-err-order : goal.returns-in-err-order
-returns-in-err-order g c =
+pub returns-in_err-order : goal.returns-in_err-order
+returns-in_err-order g c =
     record {
       obeys = λ k S sound w.
-          cancel-refused g.B.Line g.O.Line g.E.Line c.args.memory.now k S c.args.wanted.now c.from-residual.result _
-          c.from-residual.ensures.1 c.in-err-order.ensures w;
+          cancel-refused g.B.Line g.O.Line g.E.Line c.args.memory.now k S c.args.wanted.now c.from_residual.result _
+          c.from_residual.ensures.1 c.in_err-order.ensures w;
       kept = λ e. refl;
     }
 
@@ -16,8 +16,8 @@ pub returns : goal.returns
 returns g c =
     record {
       obeys = λ k S sound w.
-          cancel-done g.B.Line g.O.Line g.E.Line c.args.memory.now _ _ k S c.args.wanted.now c.in-ok-order.order _ _ sound
-          c.in-ok-order.ensures w (record { settings = refl; bids = refl; offers = refl; ends = refl }) c.cancel.ensures
+          cancel-done g.B.Line g.O.Line g.E.Line c.args.memory.now _ _ k S c.args.wanted.now c.in_ok-order.order _ _ sound
+          c.in_ok-order.ensures w (record { settings = refl; bids = refl; offers = refl; ends = refl }) c.cancel.ensures
           c.of-old.ensures c.none.ensures c.relist.ensures;
       kept = λ e. absurd (true≢false e);
     }

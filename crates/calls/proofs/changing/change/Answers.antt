@@ -3,12 +3,12 @@ use Rattle.std.proofs.lemmas.Bool.{true≢false}
 use Rattle.calls.proofs.Changes.{change-refused, change-done}
 use Rattle.calls.proofs.changing.change.Goals as goal
 
-pub returns-in-err-order : goal.returns-in-err-order
-returns-in-err-order g c =
+pub returns-in_err-order : goal.returns-in_err-order
+returns-in_err-order g c =
     record {
       obeys = λ k S sound w.
-          change-refused g.B.Line g.O.Line g.E.Line c.args.memory.now k S c.args.wanted.now c.from-residual.result _
-          c.from-residual.ensures.1 c.in-err-order.ensures w;
+          change-refused g.B.Line g.O.Line g.E.Line c.args.memory.now k S c.args.wanted.now c.from_residual.result _
+          c.from_residual.ensures.1 c.in_err-order.ensures w;
       kept = λ e. refl;
     }
 
@@ -16,8 +16,8 @@ pub returns : goal.returns
 returns g c =
     record {
       obeys = λ k S sound w.
-          change-done g.B.Line g.O.Line g.E.Line c.args.memory.now _ _ k S c.args.wanted.now c.in-ok-order.order
-          c.change-after.result _ _ sound c.in-ok-order.ensures w (record { settings = refl; bids = refl; offers = refl; ends = refl })
+          change-done g.B.Line g.O.Line g.E.Line c.args.memory.now _ _ k S c.args.wanted.now c.in_ok-order.order
+          c.change-after.result _ _ sound c.in_ok-order.ensures w (record { settings = refl; bids = refl; offers = refl; ends = refl })
           c.change-after.ensures c.of-old.ensures c.of-new.ensures c.relist.ensures;
       kept = λ e. absurd (true≢false e);
     }

@@ -3,32 +3,32 @@ use Rattle.std.proofs.lemmas.Bool.{true≢false}
 use Rattle.calls.proofs.Enters.{entry-refused, side-refused, end_refused, entry_done}
 use Rattle.calls.proofs.entering.enter.Goals as goal
 
-pub returns-in-err-check-entry : goal.returns-in-err-check-entry
-returns-in-err-check-entry g c =
+pub returns-in_err-check_entry : goal.returns-in_err-check_entry
+returns-in_err-check_entry g c =
     record {
       obeys = λ k S sound w.
-          entry-refused g.B.Line g.O.Line g.E.Line c.args.memory.now k S c.args.wanted.now c.from-residual.result _
-          c.from-residual.ensures.1 c.in-err-check-entry.ensures w;
+          entry-refused g.B.Line g.O.Line g.E.Line c.args.memory.now k S c.args.wanted.now c.from_residual.result _
+          c.from_residual.ensures.1 c.in_err-check_entry.ensures w;
       kept = λ e. refl;
     }
 
-pub returns-in-err-check-side-line : goal.returns-in-err-check-side-line
-returns-in-err-check-side-line g c =
+pub returns-in_err-check_side_line : goal.returns-in_err-check_side_line
+returns-in_err-check_side_line g c =
     record {
       obeys = λ k S sound w.
           side-refused g.B.Line g.O.Line g.E.Line c.args.memory.now k S c.args.wanted.now
-          c.from-residual-in-err-check-side-line.result _ c.from-residual-in-err-check-side-line.ensures.1
-          c.in-ok-check-entry.ensures (c.in-err-check-side-line.ensures k S sound w) w;
+          c.from_residual-in_err-check_side_line.result _ c.from_residual-in_err-check_side_line.ensures.1
+          c.in_ok-check_entry.ensures (c.in_err-check_side_line.ensures k S sound w) w;
       kept = λ e. refl;
     }
 
-pub returns-in-err-check-end-line : goal.returns-in-err-check-end-line
-returns-in-err-check-end-line g c =
+pub returns-in_err-check_end_line : goal.returns-in_err-check_end_line
+returns-in_err-check_end_line g c =
     record {
       obeys = λ k S sound w.
           end_refused g.B.Line g.O.Line g.E.Line c.args.memory.now k S c.args.wanted.now
-          c.from-residual-in-err-check-end-line.result _ c.from-residual-in-err-check-end-line.ensures.1
-          c.in-ok-check-entry.ensures (c.in-err-check-end-line.ensures k S sound w) w;
+          c.from_residual-in_err-check_end_line.result _ c.from_residual-in_err-check_end_line.ensures.1
+          c.in_ok-check_entry.ensures (c.in_err-check_end_line.ensures k S sound w) w;
       kept = λ e. refl;
     }
 
@@ -37,8 +37,8 @@ returns g c =
     record {
       obeys = λ k S sound w.
           entry_done g.B.Line g.O.Line g.E.Line c.args.memory.now _ _ k S c.args.wanted.now c.enter-order.result _ sound
-          c.in-ok-check-entry.ensures (c.in-ok-check-side-line.ensures k S sound w)
-          (c.in-ok-check-end-line.ensures k S sound w) w (record { settings = refl; bids = refl; offers = refl; ends = refl })
+          c.in_ok-check_entry.ensures (c.in_ok-check_side_line.ensures k S sound w)
+          (c.in_ok-check_end_line.ensures k S sound w) w (record { settings = refl; bids = refl; offers = refl; ends = refl })
           c.enter-order.ensures c.of-new.ensures c.enlist.ensures;
       kept = λ e. absurd (true≢false e);
     }

@@ -12,8 +12,8 @@ use Rattle.calls.proofs.rooms.check_end_line.Goals as goal
 pub returns-in-Some : goal.returns-in-Some
 returns-in-Some g c k S sound w =
     let os = S.board.orders in
-    subst (λ (t : Option ℕ). c.check-room.result ≡ refused_if (is_some t && leb k.ends (count ending os)) Full) (sym c.in-Some.is)
-    (c.check-room.ensures.listed S.board os S.board.counters.number sound.row.rising w.queued.ends ∙
+    subst (λ (t : Option ℕ). c.check_room.result ≡ refused_if (is_some t && leb k.ends (count ending os)) Full) (sym c.in-Some.is)
+    (c.check_room.ensures.listed S.board os S.board.counters.number sound.row.rising w.queued.ends ∙
     ap (λ (x : Opening). room_answer x.ends (count ending os)) w.opening ∙ room-told k.ends (count ending os))
 
 pub returns-in-None : goal.returns-in-None

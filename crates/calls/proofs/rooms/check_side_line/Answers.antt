@@ -13,13 +13,13 @@ use Rattle.calls.proofs.rooms.check_side_line.Goals as goal
 pub returns-in-Bid : goal.returns-in-Bid
 returns-in-Bid g c k S sound w =
     let os = S.board.orders in
-    subst (λ (s : Side). c.check-room.result ≡ refused_if (leb (room_for k s) (count (on s) os)) Full) (sym c.in-Bid.is)
-    (c.check-room.ensures.listed S.board os S.board.counters.number sound.row.rising w.queued.bids ∙
+    subst (λ (s : Side). c.check_room.result ≡ refused_if (leb (room_for k s) (count (on s) os)) Full) (sym c.in-Bid.is)
+    (c.check_room.ensures.listed S.board os S.board.counters.number sound.row.rising w.queued.bids ∙
     ap (λ (x : Opening). room_answer x.bids (count (on Bid) os)) w.opening ∙ room-told k.bids (count (on Bid) os))
 
 pub returns-in-Offer : goal.returns-in-Offer
 returns-in-Offer g c k S sound w =
     let os = S.board.orders in
-    subst (λ (s : Side). c.check-room-in-Offer.result ≡ refused_if (leb (room_for k s) (count (on s) os)) Full) (sym c.in-Offer.is)
-    (c.check-room-in-Offer.ensures.listed S.board os S.board.counters.number sound.row.rising w.queued.offers ∙
+    subst (λ (s : Side). c.check_room-in-Offer.result ≡ refused_if (leb (room_for k s) (count (on s) os)) Full) (sym c.in-Offer.is)
+    (c.check_room-in-Offer.ensures.listed S.board os S.board.counters.number sound.row.rising w.queued.offers ∙
     ap (λ (x : Opening). room_answer x.offers (count (on Offer) os)) w.opening ∙ room-told k.offers (count (on Offer) os))

@@ -6,8 +6,8 @@ use Rattle.drawing.specs.Due.{meant_of}
 use Rattle.drawing.proofs.Dues.{closed, apart, met, meets-there}
 use Rattle.drawing.proofs.due.session_due.Goals as goal
 
-pub returns-in-default : goal.returns-in-default
-returns-in-default g c k S sound w e = closed (board_of c.args.memory.now.board) c.in-default.not-Open ∙ ap opening w.board
+pub returns-in_default : goal.returns-in_default
+returns-in_default g c k S sound w e = closed (board_of c.args.memory.now.board) c.in_default.not-Open ∙ ap opening w.board
 
 pub returns-then-not-meets : goal.returns-then-not-meets
 returns-then-not-meets g c k S sound w e =
@@ -15,26 +15,26 @@ returns-then-not-meets g c k S sound w e =
     apart (board_of m.board) c.in-Open.is
     (sym c.if-not-meets.true ∙ meets-there g.B.Line g.O.Line g.E.Line m k S c.args.meets w e) ∙ ap opening w.board
 
-pub returns-in-err-trigger : goal.returns-in-err-trigger
-returns-in-err-trigger g c k S sound w e =
+pub returns-in_err-trigger : goal.returns-in_err-trigger
+returns-in_err-trigger g c k S sound w e =
     let m = c.args.memory.now in
     let meets = sym c.if-not-meets.false ∙ meets-there g.B.Line g.O.Line g.E.Line m k S c.args.meets w e in
-    ap meant_of c.from-residual.ensures ∙ met (board_of m.board) None None c.in-Open.is meets c.in-err-trigger.ensures refl ∙
+    ap meant_of c.from_residual.ensures ∙ met (board_of m.board) None None c.in-Open.is meets c.in_err-trigger.ensures refl ∙
     ap opening w.board
 
-pub returns-in-err-passive : goal.returns-in-err-passive
-returns-in-err-passive g c k S sound w e =
+pub returns-in_err-passive : goal.returns-in_err-passive
+returns-in_err-passive g c k S sound w e =
     let m = c.args.memory.now in
     let meets = sym c.if-not-meets.false ∙ meets-there g.B.Line g.O.Line g.E.Line m k S c.args.meets w e in
-    let trigger = Some c.in-ok-trigger.trigger in
-    ap meant_of c.from-residual-in-err-passive.ensures ∙
-    met (board_of m.board) trigger None c.in-Open.is meets c.in-ok-trigger.ensures
-    (c.in-err-passive.ensures k S sound w ∙ ap (λ (b : Board). passive_for b trigger) (sym w.board)) ∙ ap opening w.board
+    let trigger = Some c.in_ok-trigger.trigger in
+    ap meant_of c.from_residual-in_err-passive.ensures ∙
+    met (board_of m.board) trigger None c.in-Open.is meets c.in_ok-trigger.ensures
+    (c.in_err-passive.ensures k S sound w ∙ ap (λ (b : Board). passive_for b trigger) (sym w.board)) ∙ ap opening w.board
 
 pub returns : goal.returns
 returns g c k S sound w e =
     let m = c.args.memory.now in
     let meets = sym c.if-not-meets.false ∙ meets-there g.B.Line g.O.Line g.E.Line m k S c.args.meets w e in
-    let trigger = Some c.in-ok-trigger.trigger in
-    met (board_of m.board) trigger (Some c.in-ok-passive.passive) c.in-Open.is meets c.in-ok-trigger.ensures
-    (c.in-ok-passive.ensures k S sound w ∙ ap (λ (b : Board). passive_for b trigger) (sym w.board)) ∙ ap opening w.board
+    let trigger = Some c.in_ok-trigger.trigger in
+    met (board_of m.board) trigger (Some c.in_ok-passive.passive) c.in-Open.is meets c.in_ok-trigger.ensures
+    (c.in_ok-passive.ensures k S sound w ∙ ap (λ (b : Board). passive_for b trigger) (sym w.board)) ∙ ap opening w.board

@@ -33,7 +33,7 @@ returns-in-Expiry-default g c =
 pub returns-in-Nothing-default : goal.returns-in-Nothing-default
 returns-in-Nothing-default g c =
     drawn g.B.Line g.O.Line g.E.Line c.args.memory.now c.rest-in-Nothing-default.new.memory rests c.rest-in-Nothing-default.result
-    (λ k S sound w. sym (ap meant c.in-Nothing-default.is-0) ∙ c.next-step.ensures k S sound w) c.rest-in-Nothing-default.ensures
+    (λ k S sound w. sym (ap meant c.in-Nothing-default.is-0) ∙ c.next_step.ensures k S sound w) c.rest-in-Nothing-default.ensures
 
 pub returns-in-Session-Timed : goal.returns-in-Session-Timed
 returns-in-Session-Timed g c k S sound w =

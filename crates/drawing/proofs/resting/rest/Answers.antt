@@ -1,5 +1,4 @@
-use Rattle.std.proofs.Common.{◌≡◌, refl, ap}
-use Rattle.market.specs.declared.record.Record.{Record}
+use Rattle.std.proofs.Common.{refl, ap}
 use Rattle.market.specs.declared.record.Record.TheVariants.{Quiet}
 use Rattle.rules.specs.Board.{Board}
 use Rattle.rules.specs.Draws.{record_of}
