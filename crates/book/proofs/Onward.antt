@@ -1,20 +1,20 @@
 -- From one state at which a book stands to the next. Assumes nothing.
-use Rattle.std.proofs.Common.{◌≡◌, List, [], ◌∷◌, ◌++◌, sym, refl, ap, ◌∙◌, subst}
+use Rattle.std.proofs.Common.{[], ◌∷◌, sym, subst}
 use Rattle.line.specs.declared.lines.Line.{Ghosts}
 use Rattle.market.specs.declared.rank.BidRank.{BidRank}
 use Rattle.market.specs.declared.rank.OfferRank.{OfferRank}
 use Rattle.market.specs.declared.rank.EndTime.{EndTime}
 use Rattle.market.specs.declared.call.Call.{Call}
 use Rattle.market.specs.declared.answer.Answer.{Answer}
-use Rattle.rules.specs.Board.{Opening, State}
-use Rattle.rules.specs.Calls.{step, run, opened}
+use Rattle.rules.specs.Board.{State}
+use Rattle.rules.specs.Calls.{run, opened}
 use Rattle.invariants.proofs.Sounds.{sound}
 use Rattle.lawful.proofs.Lawfully.{run-append}
 use Rattle.memory.specs.declared.memory.Memory.{Memory}
 use Rattle.memory.specs.Shown.{Shows}
 use Rattle.calls.specs.Obeys.{Obeys}
 use Rattle.book.specs.declared.book.Book.{Book}
-use Rattle.book.specs.Stands.{Stands, Follows}
+use Rattle.book.specs.Stands.{Follows}
 
 module _ {B O E : Type 0} (bl : Ghosts B BidRank) (ol : Ghosts O OfferRank) (el : Ghosts E EndTime) where
   -- what is done in every sound state is done after any calls

@@ -1,5 +1,5 @@
 -- A run of calls, one after another. Assumes nothing.
-use Rattle.std.proofs.Common.{◌≡◌, ℕ, ◌+◌, ◌<◌, ◌≤◌, min, List, [], ◌∷◌, ◌++◌, length, get_or, take, drop, set, sym, refl, ap, ◌∙◌, subst, append_assoc, arith}
+use Rattle.std.proofs.Common.{◌≡◌, ℕ, ◌+◌, ◌<◌, min, List, [], ◌∷◌, ◌++◌, length, get_or, take, drop, set, sym, refl, ap, ◌∙◌, subst, append_assoc, arith}
 use Rattle.std.proofs.lemmas.List.{append-nil, take_more, take_more_set, drop_more, drop-set-lt}
 use Rattle.line.specs.declared.lines.Line.{Ghosts}
 use Rattle.market.specs.declared.rank.BidRank.{BidRank}
@@ -13,7 +13,7 @@ use Rattle.rules.specs.Calls.{step, run, answers, opened}
 use Rattle.lawful.specs.Lawful.{Lawful}
 use Rattle.lawful.proofs.Lawfully.{run-append, answers-append, lawful}
 use Rattle.book.specs.declared.book.Book.{Book}
-use Rattle.book.specs.Stands.{Stands, Follows, Plays, Played}
+use Rattle.book.specs.Stands.{Stands, Follows, Played}
 
 -- what stands behind a place that is the same stands behind the next one
 pub rest_more : (xs ys : List Answer) (i : ℕ) (a : Answer) → i < length xs → i < length ys → drop i xs ≡ drop i ys →
