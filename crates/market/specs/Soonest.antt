@@ -9,7 +9,6 @@ use Rattle.market.specs.Ranks.{class_number, earlier, sooner}
 use Rattle.market.specs.declared.rank.Class.{Class}
 use Rattle.market.specs.declared.rank.Class.TheVariants.{Last, First, Second, Plain}
 use Rattle.market.specs.declared.rank.Rank.{Rank}
-use Rattle.market.specs.declared.rank.Standing.{Standing}
 
 -- ---- one part
 

@@ -74,7 +74,7 @@ mod tests {
         assert!(rt;
             bid.is_ahead(&BidRank {
                 rank: rank(-3, Class::Last, 1, 1),
-            },)
+            })
         );
         let offer = OfferRank {
             rank: rank(-3, Class::Plain, 9, 9),
@@ -82,7 +82,7 @@ mod tests {
         assert!(rt;
             offer.is_ahead(&OfferRank {
                 rank: rank(-2, Class::Last, 1, 1),
-            },)
+            })
         );
         let newest = OfferRank {
             rank: rank(5, Class::Second, 8, 2),
@@ -90,17 +90,17 @@ mod tests {
         assert!(rt;
             newest.is_ahead(&OfferRank {
                 rank: rank(5, Class::Second, 7, 1),
-            },)
+            })
         );
         assert!(rt;
             newest.is_ahead(&OfferRank {
                 rank: rank(5, Class::Plain, 1, 1),
-            },)
+            })
         );
         assert!(rt;
             !newest.is_ahead(&OfferRank {
                 rank: rank(5, Class::First, 9, 3),
-            },)
+            })
         );
     }
 }

@@ -4,7 +4,7 @@ use Rattle.line.specs.Order.{Order}
 use Rattle.heap_row.proofs.Sinks.{sink, sink-sorted, sink-stop, bottom-stop}
 use Rattle.heap_row.proofs.heap.sift_down.Given as given
 use Rattle.heap_row.proofs.heap.sift_down.Goals as goal
-use Rattle.heap_row.proofs.heap.sift_down.Goals.{else-loop-i-test, then-loop-i-test+then-not-is-ahead}
+use Rattle.heap_row.proofs.heap.sift_down.Goals.{else-loop-i-test, then-loop-i-test+then-not-is_ahead}
 
 order : (g : given.Over) → Order g.T.Entry.ahead
 order g = record { irreflexive = g.met.T.Entry.irreflexive; total = g.met.T.Entry.total; transitive = g.met.T.Entry.transitive }
@@ -24,13 +24,13 @@ loop-i-smaller g c = omega (arith, c.lowest-low.ensures.up, c.lowest-low.ensures
 pub bounds-heap-i-2 : goal.bounds-heap-i-2
 bounds-heap-i-2 g c = omega arith
 
-pub offset-bounds-heap-low : goal.offset-bounds-heap-low
-offset-bounds-heap-low g c =
+pub offset_bounds-heap-low : goal.offset_bounds-heap-low
+offset_bounds-heap-low g c =
     let inside : c.lowest-low.result < length c.args.heap.now = omega (arith, c.lowest-low.ensures.within) in
     search rules
 
-pub offset-bounds-heap-i : goal.offset-bounds-heap-i
-offset-bounds-heap-i g c =
+pub offset_bounds-heap-i : goal.offset_bounds-heap-i
+offset_bounds-heap-i g c =
     let inside : c.loop-i.i < length c.args.heap.now = omega arith in
     search rules
 
@@ -43,12 +43,12 @@ loop-i-preserved g c =
     let b = c.index-heap-low.result in
     let inv = c.loop-i.invariant in (
       omega (arith, length-set row i b, c.lowest-low.ensures.within),
-      (λ s. sink (order g) row i low e b inv.0 c.lowest-low.ensures c.index-heap-low.is (inv.1 s) (sym c.if-not-is-ahead.ensures)),
+      (λ s. sink (order g) row i low e b inv.0 c.lowest-low.ensures c.index-heap-low.is (inv.1 s) (sym c.if-not-is_ahead.ensures)),
       sink-sorted (order g) row i low e b inv.0 c.lowest-low.ensures c.index-heap-low.is ∙ inv.2,
     )
 
-pub offset-bounds-heap-i-2 : goal.offset-bounds-heap-i-2
-offset-bounds-heap-i-2 g c =
+pub offset_bounds-heap-i-2 : goal.offset_bounds-heap-i-2
+offset_bounds-heap-i-2 g c =
     let inside : c.loop-i.i < length c.args.heap.now = omega arith in
     search rules
 
@@ -61,7 +61,7 @@ returns g c =
     record {
       heap = λ s. elim c.loop-i-test.branch [
         | else-loop-i-test w ↦ bottom-stop g.T.Entry.ahead (set row i e) i (omega (arith, length-set row i e, w.loop-i-test.false)) (inv.1 s)
-        | then-loop-i-test+then-not-is-ahead w ↦ sink-stop (order g) row i w.lowest-low.result e w.index-heap-low.result inv.0 w.lowest-low.ensures w.index-heap-low.is (inv.1 s) (sym w.if-not-is-ahead.ensures)
+        | then-loop-i-test+then-not-is_ahead w ↦ sink-stop (order g) row i w.lowest-low.result e w.index-heap-low.result inv.0 w.lowest-low.ensures w.index-heap-low.is (inv.1 s) (sym w.if-not-is_ahead.ensures)
       ];
       sorted = inv.2;
     }

@@ -4,7 +4,7 @@ use Rattle.line.specs.Order.{Order}
 use Rattle.heap_row.proofs.Rises.{lift, lift-sorted, lift-stop, top-stop}
 use Rattle.heap_row.proofs.heap.sift_up.Given as given
 use Rattle.heap_row.proofs.heap.sift_up.Goals as goal
-use Rattle.heap_row.proofs.heap.sift_up.Goals.{else-loop-i-test, then-loop-i-test+then-not-is-ahead}
+use Rattle.heap_row.proofs.heap.sift_up.Goals.{else-loop-i-test, then-loop-i-test+then-not-is_ahead}
 
 order : (g : given.Over) → Order g.T.Entry.ahead
 order g = record { irreflexive = g.met.T.Entry.irreflexive; total = g.met.T.Entry.total; transitive = g.met.T.Entry.transitive }
@@ -24,8 +24,8 @@ loop-i-smaller g c = omega arith
 pub bounds-heap-i-2 : goal.bounds-heap-i-2
 bounds-heap-i-2 g c = omega arith
 
-pub offset-bounds-heap-i : goal.offset-bounds-heap-i
-offset-bounds-heap-i g c =
+pub offset_bounds-heap-i : goal.offset_bounds-heap-i
+offset_bounds-heap-i g c =
     let inside : c.loop-i.i < length c.args.heap.now = omega arith in
     search rules
 
@@ -37,7 +37,7 @@ loop-i-preserved g c =
     let a = c.index-heap-up.result in
     let inv = c.loop-i.invariant in (
       omega (arith, length-set row i a),
-      (λ r. lift (order g) row i e a c.loop-i-test.true inv.0 c.index-heap-up.is (sym c.if-not-is-ahead.ensures) (inv.1 r)),
+      (λ r. lift (order g) row i e a c.loop-i-test.true inv.0 c.index-heap-up.is (sym c.if-not-is_ahead.ensures) (inv.1 r)),
       lift-sorted (order g) row i e a c.loop-i-test.true inv.0 c.index-heap-up.is ∙ inv.2,
     )
 
@@ -50,7 +50,7 @@ returns g c =
     record {
       heap = λ r. elim c.loop-i-test.branch [
         | else-loop-i-test w ↦ top-stop (order g) _ i (omega (arith, w.loop-i-test.false)) (inv.1 r)
-        | then-loop-i-test+then-not-is-ahead w ↦ lift-stop (order g) row i e w.index-heap-up.result w.loop-i-test.true inv.0 w.index-heap-up.is (sym w.if-not-is-ahead.ensures) (inv.1 r)
+        | then-loop-i-test+then-not-is_ahead w ↦ lift-stop (order g) row i e w.index-heap-up.result w.loop-i-test.true inv.0 w.index-heap-up.is (sym w.if-not-is_ahead.ensures) (inv.1 r)
       ];
       sorted = inv.2;
     }

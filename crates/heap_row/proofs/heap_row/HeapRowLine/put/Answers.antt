@@ -25,14 +25,14 @@ returns g c =
     let long = ap length held ∙ length-take s.len row in
     let inside : n < length row = omega arith in
     let front : take n row ≡ placed s = take-front n s.len row (omega arith) in
-    let free : holds ahead e (entries_of ahead s) ≡ false = subst (λ t. holds ahead e (sorted ahead t) ≡ false) held (not_found ahead e c.held-held.result.now c.find.result (sym c.if-is-some.ensures) c.find.ensures) in
-    let ys = c.sift-up.new.heap in
-    let whole = part-whole row ys m (omega arith) c.sift-up.auto.heap (n + 1) (drop m row) (omega arith) in
-    let more = ap (sorted ahead) whole ∙ c.sift-up.ensures.sorted ∙ sorted-grow ahead row n m e inside (omega arith) o ∙ ap (λ t. with_entry ahead e (sorted ahead t)) front in
+    let free : holds ahead e (entries_of ahead s) ≡ false = subst (λ t. holds ahead e (sorted ahead t) ≡ false) held (not_found ahead e c.held-held.result.now c.find.result (sym c.if-is_some.ensures) c.find.ensures) in
+    let ys = c.sift_up.new.heap in
+    let whole = part-whole row ys m (omega arith) c.sift_up.auto.heap (n + 1) (drop m row) (omega arith) in
+    let more = ap (sorted ahead) whole ∙ c.sift_up.ensures.sorted ∙ sorted-grow ahead row n m e inside (omega arith) o ∙ ap (λ t. with_entry ahead e (sorted ahead t)) front in
     record {
-      sound = λ sound. (subst (Heap ahead) (sym whole) (c.sift-up.ensures.heap (grow ahead row n m e inside (omega arith) (subst (Heap ahead) (sym front) sound.0))), subst (Ordered ahead) (sym more) (ordered-with o e (entries_of ahead s) free sound.1));
+      sound = λ sound. (subst (Heap ahead) (sym whole) (c.sift_up.ensures.heap (grow ahead row n m e inside (omega arith) (subst (Heap ahead) (sym front) sound.0))), subst (Ordered ahead) (sym more) (ordered-with o e (entries_of ahead s) free sound.1));
       answer = λ _. put-ok ahead e (room_of s) (entries_of ahead s) free (omega (arith, c.held-held.ensures.count));
       entries = λ _. more;
-      room = length_part row ys m (omega arith) c.sift-up.auto.heap;
+      room = length_part row ys m (omega arith) c.sift_up.auto.heap;
       kept = λ h. absurd (both_ways true h refl);
     }

@@ -1,5 +1,5 @@
 -- The class decides, or else the place within it. Assumes nothing.
-use Rattle.std.proofs.Common.{◌≡◌, ℕ, Bool, ltb, ◌≢◌, sym, ◌∙◌, arith}
+use Rattle.std.proofs.Common.{◌≡◌, ℕ, Bool, ltb, ◌≢◌, ◌∙◌, arith}
 use Rattle.std.proofs.lemmas.Bool.Decides.{nat_tests}
 use Rattle.line.specs.Order.{lower}
 use Rattle.market.specs.Ranks.{sooner, class_number}

@@ -20,11 +20,11 @@ returns g c =
     let n = ap length held in
     let front = take-front (length c.held-held.result.now) s.len s.row.now (n ∙ length-take s.len s.row.now) in
     let found = subst (λ xs. Ordered ahead xs → Belongs ahead c.args.entry xs c.in-Err.at) held c.in-Err.ensures.found in
-    let more = λ (up : Ordered ahead (entries_of s)). c.open-at.ensures ∙ ap (λ xs. insert xs c.in-Err.at c.args.entry) front ∙ sym (found up).more in
+    let more = λ (up : Ordered ahead (entries_of s)). c.open_at.ensures ∙ ap (λ xs. insert xs c.in-Err.at c.args.entry) front ∙ sym (found up).more in
     record {
       sound = λ up. subst (Ordered ahead) (sym (more up)) (ordered-with o c.args.entry (entries_of s) (found up).free up);
       answer = λ up. put-ok ahead c.args.entry (room_of s) (entries_of s) (found up).free (omega arith);
       entries = more;
-      room = c.open-at.auto.row;
+      room = c.open_at.auto.row;
       kept = λ h. absurd (both_ways true h refl);
     }

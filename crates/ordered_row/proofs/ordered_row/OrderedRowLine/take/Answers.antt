@@ -17,11 +17,11 @@ returns g c =
     let held = c.held-held.ensures.entries in
     let front = take-front (length c.held-held.result.now) s.len s.row.now (ap length held ∙ length-take s.len s.row.now) in
     let found = subst (λ xs. Ordered ahead xs → Stands ahead c.args.entry xs c.in-Ok.at) held c.in-Ok.ensures.found in
-    let less = λ (up : Ordered ahead (entries_of s)). c.close-at.ensures ∙ ap (λ xs. remove xs c.in-Ok.at) front ∙ sym (found up).less in
+    let less = λ (up : Ordered ahead (entries_of s)). c.close_at.ensures ∙ ap (λ xs. remove xs c.in-Ok.at) front ∙ sym (found up).less in
     record {
       sound = λ up. subst (Ordered ahead) (sym (less up)) (ordered-without ahead c.args.entry (entries_of s) up);
       answer = λ up. take-ok ahead c.args.entry (entries_of s) (found up).held;
       entries = less;
-      room = c.close-at.auto.row;
+      room = c.close_at.auto.row;
       kept = λ h. absurd (both_ways true h refl);
     }
