@@ -25,24 +25,21 @@ OPENINGS = (
 )
 
 HEAD = """-- Runs that the model in another language answered, recorded by its script. Assumes nothing.
-use mathlib.Core.Path.{_≡_, refl}
-use mathlib.Core.List.{List, [], _∷_}
-use lib.IntN.{ℤ, pos, negsuc}
-use Rattle·std.specs.declared.option.Option.the-variants.{None, Some}
-use Rattle·market.specs.declared.order.Side.the-variants.{Bid, Offer}
-use Rattle·market.specs.declared.order.OrderType.the-variants.{FaS, FaK, FaKI}
-use Rattle·market.specs.declared.call.Call.{Call}
-use Rattle·market.specs.declared.call.Call.the-variants.{Tick, Draw}
-use Rattle·rules.specs.Board.{Opening}
-use Rattle·rules.specs.Calls.{opened}
-use Rattle·recorded·specs.Shorthand.{enter, change, cancel, Heard, heard, h}
+use Rattle.std.specs.Prelude.{◌≡◌, List, [], ◌∷◌, pos, negsuc, Some, None, refl}
+use Rattle.market.specs.declared.order.Side.TheVariants.{Bid, Offer}
+use Rattle.market.specs.declared.order.OrderType.TheVariants.{FaS, FaK, FaKI}
+use Rattle.market.specs.declared.call.Call.{Call}
+use Rattle.market.specs.declared.call.Call.TheVariants.{Tick, Draw}
+use Rattle.rules.specs.Board.{Opening}
+use Rattle.rules.specs.Calls.{opened}
+use Rattle.recorded.specs.Shorthand.{enter, change, cancel, Heard, heard, h}
 """
 
 PROOF = """-- The recorded runs, by computation. Assumes nothing.
-use mathlib.Core.Path.{refl}
-use Rattle·rules.specs.Opened.{rules}
-use Rattle·recorded·specs.Shorthand.{heard}
-use Rattle·recorded·specs.Runs.{Recorded}
+use Rattle.std.proofs.Common.{refl}
+use Rattle.rules.specs.Opened.{rules}
+use Rattle.recorded.specs.Shorthand.{heard}
+use Rattle.recorded.specs.Runs.{Recorded}
 
 pub recorded : Recorded
 unfolding rules heard
