@@ -12,7 +12,7 @@ returns c =
     let bs = c.args.message.now in
     let s = passed (ltb 1 (byte 5 bs)) NoSide c.in-ok-side.side (side_of (byte 5 bs)) c.in-ok-side.ensures in
     let k = passed (ltb 2 (byte 6 bs)) NoType c.in-ok-kind.kind (type_of (byte 6 bs)) c.in-ok-kind.ensures in
-    let f : SFits w32 c.i32-at.result = search rules in
-    let p = to_z-of_z w32 c.i32-at.result f in
+    let f : SFits w32 c.i32_at.result = search rules in
+    let p = to_z-of_z w32 c.i32_at.result f in
     let rest = take_rest bs 27 in
     record { value = rw (s.0, k.0) (cc); place = (refl, refl) }

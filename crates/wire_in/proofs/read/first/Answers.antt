@@ -18,9 +18,9 @@ moved s t (Cancel x) f g h = tt
 moved s t (Tick x) f g h = tt
 moved s t Draw f g h = tt
 
-pub returns-in-err-call : goal.returns-in-err-call
-returns-in-err-call c =
-    let p = err_from_is_err_and c.from-residual-in-err-call.result c.from-residual-in-err-call.ensures.1 in
+pub returns-in_err-call : goal.returns-in_err-call
+returns-in_err-call c =
+    let p = err_from_is_err_and c.from_residual-in_err-call.result c.from_residual-in_err-call.ensures.1 in
     let e = simp sub-zero at c.in-err-call.ensures.value in
     rw (p.1, p.2)
     (record {

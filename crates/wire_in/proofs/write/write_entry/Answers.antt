@@ -49,6 +49,6 @@ returns c =
     let end = end_is order.end c.in-ok-end.end c.in-ok-end.ensures in
     record {
       value = same order c.args.reference.now c.args.buf.now c.if-reference-gt16.false _ _ _ _
-          c.side-byte.ensures c.type-byte.ensures (to_z-of_z w32 order.price fits) end.1 end.0 c.write-message.ensures.value;
-      bound = c.write-message.ensures.bound;
+          c.side_byte.ensures c.type_byte.ensures (to_z-of_z w32 order.price fits) end.1 end.0 c.write_message.ensures.value;
+      bound = c.write_message.ensures.bound;
     }
