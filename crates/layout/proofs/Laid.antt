@@ -1,5 +1,5 @@
 -- Bytes as the fields that are laid out in them, one after another.
-use Rattle.std.proofs.Common.{◌≡◌, ℕ, ◌+◌, ◌^◌, ◌<◌, ◌≤◌, List, ◌∷◌, ◌++◌, length, get_or, drop, ℤ, sym, ap, ◌∙◌, arith, w32, Fits, SFits, rules}
+use Rattle.std.proofs.Common.{◌≡◌, ℕ, ◌+◌, ◌^◌, ◌<◌, ◌≤◌, List, ◌∷◌, ◌++◌, length, drop, ℤ, sym, ap, ◌∙◌, w32, SFits, rules}
 use mir.ValLaws.{to_z-Fits}
 use Rattle.std.proofs.lemmas.List.{drop_more}
 use Rattle.std.proofs.lemmas.Int.{of_z-to_z, to_z-of_z}

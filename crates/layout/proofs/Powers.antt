@@ -1,5 +1,5 @@
 -- Powers of 256: how large a number of so many bytes can be.
-use Rattle.std.proofs.Common.{◌≡◌, ℕ, suc, ◌+◌, ◌*◌, ◌^◌, ◌<◌, ◌≤◌, ap, ◌∙◌, pow-suc, add-one, arith}
+use Rattle.std.proofs.Common.{◌≡◌, ℕ, ◌+◌, ◌*◌, ◌^◌, ◌≤◌, ap, ◌∙◌, pow-suc, add-one, arith}
 use native.Mathlib.Nat.{pow-le-pow_right}
 
 pub pow_more : (i : ℕ) → 256 ^ (i + 1) ≡ 256 ^ i * 256

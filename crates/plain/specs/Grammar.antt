@@ -3,7 +3,6 @@ use Rattle.std.specs.Prelude.{ℕ, Bool, cond, ◌||◌, List, [], length, ℤ, 
 use Rattle.std.specs.Borrow.{Bor}
 use Rattle.std.specs.Str.{bytes_eq}
 use Rattle.std.specs.Option.{option_map}
-use Rattle.market.specs.declared.call.OrderEntry.{OrderEntry}
 use Rattle.market.specs.declared.call.OrderChange.{OrderChange}
 use Rattle.market.specs.declared.call.OrderCancel.{OrderCancel}
 use Rattle.market.specs.declared.order.Side.{Side}

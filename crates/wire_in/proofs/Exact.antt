@@ -1,5 +1,5 @@
 -- Reading undoes writing, and writing undoes reading.
-use Rattle.std.proofs.Common.{◌≡◌, ℕ, ◌+◌, ◌^◌, ◌<◌, ◌≤◌, Bool, true, false, cond, not, ◌&&◌, ◌||◌, eqb, ltb, leb, ◌⊎◌, List, [], ◌∷◌, ◌++◌, length, get_or, take, drop, ℤ, Some, None, Ok, Err, Option, Result, unwrap_or, sym, refl, ap, ◌∙◌, subst, inl, inr, arith, length-drop}
+use Rattle.std.proofs.Common.{◌≡◌, ℕ, ◌^◌, ◌<◌, ◌≤◌, true, false, not, eqb, ltb, ◌⊎◌, List, ◌++◌, length, drop, ℤ, Some, None, Ok, Option, Result, unwrap_or, sym, refl, ap, ◌∙◌, subst, inl, inr, arith, length-drop}
 use Rattle.std.proofs.ByRecursion.{All-get_or, All-drop}
 use Rattle.std.proofs.lemmas.List.{drop_all}
 use Rattle.std.proofs.lemmas.Bool.{cond_both, eqb-true, eqb-false, not-false}
@@ -7,7 +7,6 @@ use Rattle.std.proofs.lemmas.Bool.Decides.{nat_tests}
 use Rattle.std.specs.Int.Digits.{AllBelowBase}
 use Rattle.market.specs.declared.call.OrderEntry.{OrderEntry}
 use Rattle.market.specs.declared.call.OrderChange.{OrderChange}
-use Rattle.market.specs.declared.call.OrderCancel.{OrderCancel}
 use Rattle.market.specs.declared.order.Side.{Side}
 use Rattle.market.specs.declared.order.Side.TheVariants.{Bid, Offer}
 use Rattle.market.specs.declared.order.OrderType.{OrderType}
@@ -16,8 +15,7 @@ use Rattle.market.specs.Tenors.{within}
 use Rattle.market.specs.declared.refusal.MessageFault.{MessageFault}
 use Rattle.market.specs.declared.refusal.MessageFault.TheVariants.{Kind, Length, Side as NoSide, OrderType as NoType}
 use Rattle.layout.specs.Fields.{in_bytes}
-use Rattle.layout.specs.Frames.{message}
-use Rattle.layout.specs.Numbers.{byte, bytes, big, field, signed, ticks}
+use Rattle.layout.specs.Numbers.{byte, bytes, big, field}
 use Rattle.layout.specs.Laws.{ReadBack, OneMeaning, NothingElse}
 use Rattle.layout.proofs.Answered.{passes}
 use Rattle.layout.proofs.Exact as layout
@@ -25,7 +23,7 @@ use Rattle.layout.proofs.Laid.{price-back, byte-then, code-then, bytes-then, pri
 use Rattle.layout.proofs.Widths.{big-back, field-part, field-small}
 use Rattle.wire_in.specs.Laws.{FittingEnd, Fitting}
 use Rattle.wire_in.specs.Messages.{Message, entry, change, cancel, tick, draw}
-use Rattle.wire_in.specs.Reading.{side_of, type_of, end_of, order_in, entry_in, change_in, cancel_in, fits, body_in, call_in}
+use Rattle.wire_in.specs.Reading.{side_of, type_of, end_of, order_in, change_in, cancel_in, fits, body_in, call_in}
 use Rattle.wire_in.specs.Writing.{side_byte, type_byte, kind_of, fields_of, reference_of, coded}
 
 -- what a message holds behind its head

@@ -39,7 +39,7 @@ meant (Err e) = Err e
 
 -- an entry's reference lies in the input itself, from byte 27 on
 abbrev pub Placed : {E : Type 0} → ℕ × ℕ → Result CallMessage E → Type 0
-Placed input (Ok (Entry order reference)) = (reference.ptr.0 ≡ input.0) × (reference.ptr.1 ≡ 27 + input.1)
+Placed input (Ok (Entry order reference)) = (reference.ref_ptr.0 ≡ input.0) × (reference.ref_ptr.1 ≡ 27 + input.1)
 Placed input (Ok (Change c)) = Unit {0}
 Placed input (Ok (Cancel c)) = Unit {0}
 Placed input (Ok (Tick time)) = Unit {0}

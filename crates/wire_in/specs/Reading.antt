@@ -1,5 +1,5 @@
 -- What the bytes of a call mean. Assumes nothing.
-use Rattle.std.specs.Prelude.{ℕ, Bool, cond, not, ◌&&◌, ◌||◌, List, [], ◌∷◌, length, drop, Some, None, Ok, Err, Option, Result, ◌==◌, nat_lt}
+use Rattle.std.specs.Prelude.{ℕ, Bool, cond, not, ◌&&◌, ◌||◌, List, [], ◌∷◌, length, drop, Some, None, Ok, Option, Result, ◌==◌, nat_lt}
 use Rattle.market.specs.Tenors.{within}
 use Rattle.market.specs.declared.call.OrderEntry.{OrderEntry}
 use Rattle.market.specs.declared.call.OrderChange.{OrderChange}

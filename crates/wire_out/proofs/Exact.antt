@@ -1,5 +1,5 @@
 -- Reading undoes writing, and writing undoes reading.
-use Rattle.std.proofs.Common.{◌≡◌, ℕ, ◌+◌, ◌^◌, ◌<◌, ◌≤◌, Bool, true, false, cond, not, eqb, ◌⊎◌, List, [], ◌∷◌, ◌++◌, length, drop, ℤ, Ok, Err, Result, sym, refl, ap, ◌∙◌, subst, inl, inr, arith}
+use Rattle.std.proofs.Common.{◌≡◌, ℕ, ◌^◌, ◌<◌, ◌≤◌, true, false, not, eqb, ◌⊎◌, List, [], length, drop, ℤ, Ok, Result, sym, refl, ap, ◌∙◌, subst, inl, inr, arith}
 use Rattle.std.proofs.ByRecursion.{All-get_or}
 use Rattle.std.proofs.lemmas.List.{drop_all}
 use Rattle.std.proofs.lemmas.Bool.{eqb-true, not-false}
@@ -9,21 +9,20 @@ use Rattle.market.specs.Tenors.{within}
 use Rattle.market.specs.declared.record.Cause.{Cause}
 use Rattle.market.specs.declared.record.Cause.TheVariants.{FaKI, FaK, End}
 use Rattle.market.specs.declared.record.Fill.{Fill}
-use Rattle.market.specs.declared.record.Record.{Record}
 use Rattle.market.specs.declared.record.Record.TheVariants.{Quiet, Fill as Filled, Session, Rolling, Fbs, Open, Removal}
 use Rattle.market.specs.declared.refusal.MessageFault.{MessageFault}
 use Rattle.market.specs.declared.refusal.MessageFault.TheVariants.{Kind, Length}
 use Rattle.layout.specs.Fields.{in_bytes}
 use Rattle.layout.specs.Laws.{ReadBack, OneMeaning, NothingElse}
-use Rattle.layout.specs.Numbers.{byte, bytes, big, field, signed, ticks}
+use Rattle.layout.specs.Numbers.{byte, bytes, field, signed}
 use Rattle.layout.proofs.Answered.{passes}
 use Rattle.layout.proofs.Exact as layout
 use Rattle.layout.proofs.Laid.{price-back, byte-then, code-then, bytes-then, price-then, price-fits}
 use Rattle.layout.proofs.Widths.{big-back, field-small}
 use Rattle.wire_out.specs.declared.output.Output.{Output}
 use Rattle.wire_out.specs.declared.output.Output.TheVariants.{Record as Recorded, Reply}
-use Rattle.wire_out.specs.Laws.{FittingRecord, Fitting}
-use Rattle.wire_out.specs.Reading.{cause_of, fill_in, removal_in, known, length_of, body_in, output_in}
+use Rattle.wire_out.specs.Laws.{Fitting}
+use Rattle.wire_out.specs.Reading.{cause_of, fill_in, known, length_of, body_in, output_in}
 use Rattle.wire_out.specs.Writing.{cause_byte, kind_of, fields_of, coded}
 
 -- what a message holds behind its head

@@ -1,10 +1,9 @@
 -- What the bytes of records and replies mean. Assumes nothing.
-use Rattle.std.specs.Prelude.{ℕ, Bool, cond, not, ◌&&◌, ◌||◌, List, [], ◌∷◌, length, Ok, Err, Result, ◌==◌}
+use Rattle.std.specs.Prelude.{ℕ, Bool, cond, not, ◌||◌, List, [], ◌∷◌, length, Ok, Result, ◌==◌}
 use Rattle.market.specs.Tenors.{within}
 use Rattle.market.specs.declared.record.Cause.{Cause}
 use Rattle.market.specs.declared.record.Cause.TheVariants.{FaKI, FaK, End}
 use Rattle.market.specs.declared.record.Fill.{Fill}
-use Rattle.market.specs.declared.record.Record.{Record}
 use Rattle.market.specs.declared.record.Record.TheVariants.{Quiet, Fill as Filled, Session, Rolling, Fbs, Open, Removal}
 use Rattle.market.specs.declared.refusal.MessageFault.{MessageFault}
 use Rattle.market.specs.declared.refusal.MessageFault.TheVariants.{Kind, Length}

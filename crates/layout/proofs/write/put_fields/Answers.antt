@@ -1,4 +1,4 @@
-use Rattle.std.proofs.Common.{◌≡◌, ℕ, ◌+◌, ◌<◌, ◌≤◌, List, length, get_or, take, sym, ap, ◌∙◌, arith, length-append, rules}
+use Rattle.std.proofs.Common.{ℕ, ◌+◌, ◌<◌, ◌≤◌, List, length, get_or, take, sym, ap, ◌∙◌, arith, length-append, rules}
 use Rattle.std.proofs.lemmas.List.{take_all}
 use Rattle.layout.specs.Fields.{field_bytes, in_bytes}
 use Rattle.layout.specs.Frames.{pasted}
@@ -16,11 +16,11 @@ room fields i h =
     let more = ap length (in_bytes-more fields i (Byte 0) h) in
     omega (arith, more, length-append (in_bytes (take i fields)) (field_bytes (get_or fields i (Byte 0))), in_bytes-within fields (i + 1))
 
-pub put-field-requires : goal.put-field-requires
-put-field-requires c = omega (arith, room c.args.fields.now c.loop-field.field-index c.loop-field-test.true)
+pub put_field-requires : goal.put_field-requires
+put_field-requires c = omega (arith, room c.args.fields.now c.loop-field.field-index c.loop-field-test.true)
 
-pub overflow-add-at : goal.overflow-add-at
-overflow-add-at c =
+pub overflow_add-at : goal.overflow_add-at
+overflow_add-at c =
     let r = room c.args.fields.now c.loop-field.field-index c.loop-field-test.true in
     search rules
 
@@ -33,7 +33,7 @@ loop-field-preserved c =
     let more = in_bytes-more fields i (Byte 0) c.loop-field-test.true in
     let fit = room fields i c.loop-field-test.true in
     let put = then-put c.args.buf.now done next c.args.start c.loop-field.at
-    c.loop-field.invariant.0 c.put-field.ensures c.loop-field.invariant.1 (omega arith) in
+    c.loop-field.invariant.0 c.put_field.ensures c.loop-field.invariant.1 (omega arith) in
     (put ∙ ap (pasted c.args.buf.now c.args.start) (sym more), omega (arith, ap length more, length-append done next))
 
 pub returns : goal.returns

@@ -22,7 +22,7 @@ returns c =
     let rest : c.args.size - 2 ≡ 2 + length (fields ++ tail) = omega arith in
     let head : List ℕ = bytes 2 (2 + length (fields ++ tail)) ++ (1 ∷ kind ∷ []) in
     let first : c.put.new.buf ≡ pasted old 0 head =
-    headed kind (2 + length (fields ++ tail)) _ c.to-be-bytes.result (drop 4 old) c.to-be-bytes.ensures rest c.put.ensures in
-    let second = then-put old head fields 0 4 first c.put-fields.ensures refl (omega arith) in
+    headed kind (2 + length (fields ++ tail)) _ c.to_be_bytes.result (drop 4 old) c.to_be_bytes.ensures rest c.put.ensures in
+    let second = then-put old head fields 0 4 first c.put_fields.ensures refl (omega arith) in
     let third = then-put old (head ++ fields) tail 0 (c.args.size - length tail) second c.put-2.ensures (omega arith) (omega arith) in
     third ∙ ap (pasted old 0) (append_assoc head fields tail)

@@ -1,4 +1,4 @@
-use Rattle.std.proofs.Common.{◌≡◌, ℕ, ◌+◌, ◌-◌, ◌^◌, min, List, length, get_or, take, ap, ◌∙◌, arith, length-append}
+use Rattle.std.proofs.Common.{◌-◌, ◌^◌, min, List, length, get_or, take, ap, ◌∙◌, arith, length-append}
 use Rattle.std.proofs.lemmas.List.{take_all}
 use Rattle.layout.specs.Fields.{field_bytes, in_bytes}
 use Rattle.layout.specs.declared.field.Field.{Field}

@@ -1,9 +1,7 @@
-use Rattle.std.proofs.Common.{◌≡◌, ℕ, ◌+◌, ◌<◌, ◌≤◌, true, false, length, get_or, take, Some, sym, ap, ◌∙◌, arith}
+use Rattle.std.proofs.Common.{ℕ, ◌+◌, length, get_or, Some, sym, ap, ◌∙◌, arith}
 use Rattle.std.proofs.lemmas.List.{take_all}
 use Rattle.std.proofs.lemmas.Bool.{eqb-false}
-use Rattle.std.proofs.lemmas.Bool.Decides.{nat_tests}
-use Rattle.market.specs.Tenors.{within}
-use Rattle.plain.specs.Numerals.{digits, value, numeral}
+use Rattle.plain.specs.Numerals.{digits, value}
 use Rattle.plain.proofs.Digits.{value-more, digits_more, no_digit, too_large, all_read, digit-yes, digit-no}
 use Rattle.plain.proofs.numeral.numeral.Goals as goal
 
@@ -15,11 +13,11 @@ loop-byte-preserved c =
     let more = value-more word i c.loop-byte-test.true in
     (digits_more word i c.loop-byte-test.true c.loop-byte.invariant.0 d.0, omega arith, omega arith)
 
-pub returns-in-default : goal.returns-in-default
-returns-in-default c =
+pub returns-in_default : goal.returns-in_default
+returns-in_default c =
     let word = c.args.word.now in
     let i = c.loop-byte.byte-index in
-    no_digit word i c.loop-byte-test.true c.args.most (digit-no (get_or word i 0) c.in-default.ensures)
+    no_digit word i c.loop-byte-test.true c.args.most (digit-no (get_or word i 0) c.in_default.ensures)
 
 pub returns-then-from-n : goal.returns-then-from-n
 returns-then-from-n c =
@@ -33,6 +31,6 @@ returns c =
     let word = c.args.word.now in
     let all = take_all c.loop-byte.byte-index word c.loop-byte-test.false in
     let n = c.loop-byte.invariant.1 ∙ ap value all in
-    let some = eqb-false (length word) 0 (sym c.if-is-empty.ensures) in
+    let some = eqb-false (length word) 0 (sym c.if-is_empty.ensures) in
     ap (λ (v : ℕ). Some v) n
     ∙ all_read word c.args.most (omega arith) (sym (ap digits all) ∙ c.loop-byte.invariant.0) (omega arith)

@@ -21,15 +21,15 @@ loop-i-preserved c =
     let text = c.args.text.now in
     let i = c.loop-i.i in
     let p = alike c.args.blanks in
-    let same = goes_on c.is-blank.result c.args.blanks (get_or text i 0) c.is-blank.ensures c.if-is-blank-blanks.false in
+    let same = goes_on c.is_blank.result c.args.blanks (get_or text i 0) c.is_blank.ensures c.if-is_blank-blanks.false in
     omega (arith, prefix_len-drop_yes p text i 0 c.loop-i-test.true same)
 
-pub returns-then-is-blank-blanks : goal.returns-then-is-blank-blanks
-returns-then-is-blank-blanks c =
+pub returns-then-is_blank-blanks : goal.returns-then-is_blank-blanks
+returns-then-is_blank-blanks c =
     let text = c.args.text.now in
     let i = c.loop-i.i in
     let p = alike c.args.blanks in
-    let other = stops c.is-blank.result c.args.blanks (get_or text i 0) c.is-blank.ensures c.if-is-blank-blanks.true in
+    let other = stops c.is_blank.result c.args.blanks (get_or text i 0) c.is_blank.ensures c.if-is_blank-blanks.true in
     let none = prefix_len-drop_no p text i 0 c.loop-i-test.true other in
     record { value = omega arith; bound = omega arith }
 

@@ -2,8 +2,8 @@ use Rattle.std.proofs.Common.{arith}
 use Rattle.std.proofs.lemmas.Bool.Decides.{nat_tests}
 use Rattle.wire_in.proofs.read.call.Goals as goal
 
-pub returns-in-default : goal.returns-in-default
-returns-in-default c = record { value = grind (arith, nat_tests); place = tt }
+pub returns-in_default : goal.returns-in_default
+returns-in_default c = record { value = grind (arith, nat_tests); place = tt }
 
-pub returns-in-1-to-5-rest : goal.returns-in-1-to-5-rest
-returns-in-1-to-5-rest c = record { value = grind (arith, nat_tests); place = tt }
+pub returns-in-1-to-5-default : goal.returns-in-1-to-5-default
+returns-in-1-to-5-default c = record { value = grind (arith, nat_tests); place = tt }

@@ -1,4 +1,4 @@
-use Rattle.std.proofs.Common.{◌≡◌, ℕ, ◌+◌, Ok, Err, refl, ap, ◌∙◌, zero-add}
+use Rattle.std.proofs.Common.{◌≡◌, ℕ, ◌+◌, Ok, refl, ap, ◌∙◌, zero-add}
 use native.Mathlib.Nat.{sub-zero}
 use Rattle.std.proofs.lemmas.Result.{err_from_is_err_and}
 use Rattle.market.specs.declared.refusal.MessageFault.{MessageFault}
@@ -18,24 +18,24 @@ moved s t (Cancel x) f g h = tt
 moved s t (Tick x) f g h = tt
 moved s t Draw f g h = tt
 
-pub returns-in-err-call : goal.returns-in-err-call
-returns-in-err-call c =
-    let p = err_from_is_err_and c.from-residual-in-err-call.result c.from-residual-in-err-call.ensures.1 in
-    let e = simp sub-zero at c.in-err-call.ensures.value in
+pub returns-in_err-call : goal.returns-in_err-call
+returns-in_err-call c =
+    let p = err_from_is_err_and c.from_residual-in_err-call.result c.from_residual-in_err-call.ensures.1 in
+    let e = simp sub-zero at c.in_err-call.ensures.value in
     rw (p.1, p.2)
     (record {
-      value = read-err call_in c.args.input.now c.in-ok-size.size c.in-err-call.field-0.0 c.in-ok-size.ensures e;
+      value = read-err call_in c.args.input.now c.in_ok-size.size c.in_err-call.field-0.0 c.in_ok-size.ensures e;
       place = tt;
       bound = tt;
     })
 
 pub returns : goal.returns
 returns c =
-    let e = simp sub-zero at c.in-ok-call.ensures.value in
-    let n = c.in-ok-size.size in
-    let f = c.in-ok-size.ensures in
+    let e = simp sub-zero at c.in_ok-call.ensures.value in
+    let n = c.in_ok-size.size in
+    let f = c.in_ok-size.ensures in
     record {
-      value = read_ok call_in c.args.input.now n (said c.in-ok-call.call) f e;
-      place = moved _ c.args.input.ptr c.in-ok-call.call refl (zero-add c.args.input.ptr.1) c.in-ok-call.ensures.place;
+      value = read_ok call_in c.args.input.now n (said c.in_ok-call.call) f e;
+      place = moved _ c.args.input.ref_ptr c.in_ok-call.call refl (zero-add c.args.input.ref_ptr.1) c.in_ok-call.ensures.place;
       bound = framed-bounds c.args.input.now n f;
     }

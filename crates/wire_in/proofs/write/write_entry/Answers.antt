@@ -6,10 +6,10 @@ use Rattle.market.specs.declared.refusal.BookFault.{BookFault}
 use Rattle.market.specs.declared.refusal.BookFault.TheVariants.{End}
 use Rattle.market.specs.declared.refusal.Refusal.{Refusal}
 use Rattle.layout.specs.Fields.{in_bytes}
-use Rattle.layout.specs.Frames.{message, sending, writing}
+use Rattle.layout.specs.Frames.{sending}
 use Rattle.layout.specs.declared.field.Field.TheVariants.{Byte, Number, Price, Time}
 use Rattle.wire_in.specs.Messages.{entry}
-use Rattle.wire_in.specs.Writing.{side_byte, type_byte, at_zero, end_number, coded, writing_call}
+use Rattle.wire_in.specs.Writing.{side_byte, type_byte, at_zero, end_number, writing_call}
 use Rattle.wire_in.proofs.write.write_entry.Goals as goal
 
 end_is : (end : Option ℕ) (n : ℕ) → Ok n ≡ end_number end → (at_zero end ≡ false) × (n ≡ unwrap_or end 0)
@@ -46,9 +46,9 @@ unfolding body
 returns c =
     let order = c.args.order.now in
     let fits : SFits w32 order.price = search rules in
-    let end = end_is order.end c.in-ok-end.end c.in-ok-end.ensures in
+    let end = end_is order.end c.in_ok-end.end c.in_ok-end.ensures in
     record {
       value = same order c.args.reference.now c.args.buf.now c.if-reference-gt16.false _ _ _ _
-          c.side-byte.ensures c.type-byte.ensures (to_z-of_z w32 order.price fits) end.1 end.0 c.write-message.ensures.value;
-      bound = c.write-message.ensures.bound;
+          c.side_byte.ensures c.type_byte.ensures (to_z-of_z w32 order.price fits) end.1 end.0 c.write_message.ensures.value;
+      bound = c.write_message.ensures.bound;
     }

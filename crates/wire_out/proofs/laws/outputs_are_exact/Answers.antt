@@ -2,4 +2,4 @@ use Rattle.wire_out.proofs.Exact.{read_back, one-meaning, nothing-else}
 use Rattle.wire_out.proofs.laws.outputs_are_exact.Goals as goal
 
 pub returns : goal.returns
-returns c = record { read_back = read_back; one-meaning = one-meaning; nothing-else = nothing-else }
+returns c = record { read_back = read_back; one_meaning = one-meaning; nothing_else = nothing-else }

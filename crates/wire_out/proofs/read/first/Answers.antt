@@ -4,22 +4,22 @@ use Rattle.layout.proofs.Answered.{read_ok, read-err, framed-bounds}
 use Rattle.wire_out.specs.Reading.{output_in}
 use Rattle.wire_out.proofs.read.first.Goals as goal
 
-pub returns-in-err-output : goal.returns-in-err-output
-returns-in-err-output c =
-    let p = err_from_is_err_and c.from-residual-in-err-output.result c.from-residual-in-err-output.ensures.1 in
-    let e = simp sub-zero at c.in-err-output.ensures in
+pub returns-in_err-output : goal.returns-in_err-output
+returns-in_err-output c =
+    let p = err_from_is_err_and c.from_residual-in_err-output.result c.from_residual-in_err-output.ensures.1 in
+    let e = simp sub-zero at c.in_err-output.ensures in
     rw (p.1, p.2)
     (record {
-      value = read-err output_in c.args.input.now c.in-ok-size.size c.in-err-output.field-0.0 c.in-ok-size.ensures e;
+      value = read-err output_in c.args.input.now c.in_ok-size.size c.in_err-output.field-0.0 c.in_ok-size.ensures e;
       bound = tt;
     })
 
 pub returns : goal.returns
 returns c =
-    let e = simp sub-zero at c.in-ok-output.ensures in
-    let n = c.in-ok-size.size in
-    let f = c.in-ok-size.ensures in
+    let e = simp sub-zero at c.in_ok-output.ensures in
+    let n = c.in_ok-size.size in
+    let f = c.in_ok-size.ensures in
     record {
-      value = read_ok output_in c.args.input.now n c.in-ok-output.output f e;
+      value = read_ok output_in c.args.input.now n c.in_ok-output.output f e;
       bound = framed-bounds c.args.input.now n f;
     }

@@ -15,7 +15,7 @@ at old e f = f ∙ ap (λ (r : Record). writing (coded_record r) old) (sym e)
 
 pub returns-in-Quiet : goal.returns-in-Quiet
 returns-in-Quiet c =
-    record { value = at c.args.buf.now c.in-Quiet.is c.write-message.ensures.value; bound = c.write-message.ensures.bound }
+    record { value = at c.args.buf.now c.in-Quiet.is c.write_message.ensures.value; bound = c.write_message.ensures.bound }
 
 pub returns-in-Fill : goal.returns-in-Fill
 returns-in-Fill c =
@@ -25,8 +25,8 @@ returns-in-Fill c =
     let told : ℤ → Record = λ p. Fill time (record { price = p; size = f.size; bid = f.bid; bidleft = f.bidleft; offer = f.offer; offerleft = f.offerleft }) in
     record {
       value = at c.args.buf.now c.in-Fill.is
-          (c.write-message-in-Fill.ensures.value ∙ ap (λ (p : ℤ). writing (coded_record (told p)) c.args.buf.now) (to_z-of_z w32 f.price fits));
-      bound = c.write-message-in-Fill.ensures.bound;
+          (c.write_message-in-Fill.ensures.value ∙ ap (λ (p : ℤ). writing (coded_record (told p)) c.args.buf.now) (to_z-of_z w32 f.price fits));
+      bound = c.write_message-in-Fill.ensures.bound;
     }
 
 pub returns-in-Session : goal.returns-in-Session
@@ -35,22 +35,22 @@ returns-in-Session c =
     let fits : SFits w32 s.price = search rules in
     record {
       value = at c.args.buf.now s.is
-          (c.write-message-in-Session.ensures.value
+          (c.write_message-in-Session.ensures.value
           ∙ ap (λ (p : ℤ). writing (coded_record (Session s.time p s.passive)) c.args.buf.now) (to_z-of_z w32 s.price fits));
-      bound = c.write-message-in-Session.ensures.bound;
+      bound = c.write_message-in-Session.ensures.bound;
     }
 
 pub returns-in-Rolling : goal.returns-in-Rolling
 returns-in-Rolling c =
-    record { value = at c.args.buf.now c.in-Rolling.is c.write-message-in-Rolling.ensures.value; bound = c.write-message-in-Rolling.ensures.bound }
+    record { value = at c.args.buf.now c.in-Rolling.is c.write_message-in-Rolling.ensures.value; bound = c.write_message-in-Rolling.ensures.bound }
 
 pub returns-in-Fbs : goal.returns-in-Fbs
 returns-in-Fbs c =
-    record { value = at c.args.buf.now c.in-Fbs.is c.write-message-in-Fbs.ensures.value; bound = c.write-message-in-Fbs.ensures.bound }
+    record { value = at c.args.buf.now c.in-Fbs.is c.write_message-in-Fbs.ensures.value; bound = c.write_message-in-Fbs.ensures.bound }
 
 pub returns-in-Open : goal.returns-in-Open
 returns-in-Open c =
-    record { value = at c.args.buf.now c.in-Open.is c.write-message-in-Open.ensures.value; bound = c.write-message-in-Open.ensures.bound }
+    record { value = at c.args.buf.now c.in-Open.is c.write_message-in-Open.ensures.value; bound = c.write_message-in-Open.ensures.bound }
 
 pub returns-in-Removal : goal.returns-in-Removal
 returns-in-Removal c =
@@ -58,6 +58,6 @@ returns-in-Removal c =
     let bytes : ℕ → List ℕ = λ b. message 22 (in_bytes (Time r.time ∷ Number r.number ∷ Number r.displayed ∷ Byte b ∷ [])) in
     record {
       value = at c.args.buf.now r.is
-          (c.write-message-in-Removal.ensures.value ∙ ap (λ (b : ℕ). writing (bytes b) c.args.buf.now) c.cause-byte.ensures);
-      bound = c.write-message-in-Removal.ensures.bound;
+          (c.write_message-in-Removal.ensures.value ∙ ap (λ (b : ℕ). writing (bytes b) c.args.buf.now) c.cause_byte.ensures);
+      bound = c.write_message-in-Removal.ensures.bound;
     }
