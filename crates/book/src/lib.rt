@@ -2,5 +2,5 @@
 #![tactic(auto)]
 
 pub mod book;
-pub mod calls;
+pub mod each_call;
 pub mod play;
