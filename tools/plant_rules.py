@@ -181,8 +181,9 @@ def examples_refusing(root, out):
 def laws_refusing(out, crate):
     """The functions whose contract is not proved in a check of `crate`, and the lemma at which a proof breaks."""
     laws = [m.split('::')[1] for m in re.findall(r'^fn (\S+): (?:not proved|no proof)', out, re.M)]
-    broken = re.findall(r'^(?:\.\./(\w+)|\.)/proofs/(\S+?)\.antt:\d+:\d+: error: `(\S+?)`', out, re.M)
-    lemma = ['lemma %s of %s' % (name, below or crate) for below, path, name in broken if not path.endswith('Answers')][:1]
+    below = re.search(r'^rt: the library (\w+) did not build', out, re.M)
+    broken = re.findall(r'^\./proofs/(\S+?)\.antt:\d+:\d+: error: `(\S+?)`', out, re.M)
+    lemma = ['lemma %s of %s' % (name, below[1] if below else crate) for path, name in broken if not path.endswith('Answers')][:1]
     return laws, lemma
 
 

@@ -1,11 +1,11 @@
 //! An order's place in the queue of its side, and its end time: what the lines of a book hold.
 ghost use Rattle.std.specs.Prelude.{◌≡◌, ℕ, Bool};
 ghost use Rattle.std.proofs.Common.{sym, ap, rules};
+ghost use Rattle.line.proofs.Orders.{lower_z-back, lower_z-on};
 ghost use Rattle.market.specs.Ranks.{class_number, earlier, sooner, bid_ahead, offer_ahead, end_ahead};
 ghost use Rattle.market.specs.Soonest.{lower_z-self, sooner-self, lower_z-even, sooner-even, sooner-on};
 ghost use Rattle.market.specs.declared.rank.Rank.{Rank};
 ghost use Rattle.market.specs.declared.rank.BidRank.{BidRank};
-ghost use Rattle.line.proofs.Orders.{lower_z-back, lower_z-on};
 ghost use Rattle.market.specs.declared.rank.OfferRank.{OfferRank};
 
 use line::entry::Entry;

@@ -1,12 +1,12 @@
 //! The entries of the three lines of a book: ranks of bids, ranks of offers, and end times.
 ghost use Rattle.std.specs.Prelude.{◌≡◌, Bool};
+ghost use Rattle.std.proofs.Common.{rules};
 ghost use Rattle.market.specs.declared.order.Side.TheVariants.{Bid, Offer};
 ghost use Rattle.rules.specs.Board.{on, better};
 ghost use Rattle.rules.specs.Refusing.{ending};
+ghost use Rattle.rules.specs.Standings;
 ghost use Rattle.board.specs.EndTimes.{end_time};
 ghost use Rattle.queues.specs.Entries.{bid_entry, offer_entry};
-ghost use borrow.Author.Rules.{rules};
-ghost use Rattle.rules.specs.Standings;
 
 use crate::listed::Listed;
 use crate::ranked::Ranked;
