@@ -120,14 +120,14 @@ BUGS = [
     ('quiet tells the time before', 'Draws', 'record_of h b rests = Quiet b.clock.wished', 'record_of h b rests = Quiet b.clock.time'),
     # ---- changes and entries
     ('a change is larger if above the shown size', 'Calls', 'nat_lt o.displayed c.displayed', 'nat_lt o.shown c.displayed'),
-    ('a smaller displayed size takes a new stamp', 'Calls', 'nat_lt o.displayed c.displayed', 'not (o.displayed == c.displayed)'),
+    ('a smaller displayed size takes a new stamp', 'Calls', 'nat_lt o.displayed c.displayed', 'nat_lt o.displayed c.displayed || nat_lt c.displayed o.displayed'),
     ('a change with a new stamp stays prior', 'Calls', 'prior = not anew && o.prior;', 'prior = o.prior;'),
     ('a change undoes a fill in part', 'Calls', 'filled = o.filled;\n      first = o.first;', 'filled = false;\n      first = o.first;'),
     ('a change leaves the shown size', 'Calls', 'shown = c.displayed;', 'shown = o.shown;'),
     ('a change is not incoming', 'Calls', 'incoming = Some o.number;', 'incoming = b.counters.incoming;'),
     ('a better entry in a session keeps its price', 'Refusing', 'cond (in_session b.phase && better s p b.session.price) b.session.price p', 'p'),
     # ---- refusals
-    ('prices that are equal do not meet one\'s own', 'Refusing', 'would_meet Bid p q = int_le q p', 'would_meet Bid p q = int_lt q p'),
+    ('prices that are equal do not meet one\'s own', 'Refusing', 'would_meet Bid p q = int_le q p', 'would_meet Bid p q = not (int_le p q)'),
     ('one\'s own order is met at the price written', 'Refusing',
      '(entry_price b e.side e.price), Book Own)', 'e.price, Book Own)'),
     ('a size may exceed the largest', 'Refusing', '&& nat_le n 1000000', '&& nat_le n 2000000'),
