@@ -1,13 +1,13 @@
 -- A run of calls, one after another. Assumes nothing.
-use Rattle.std.proofs.Common.{◌≡◌, ℕ, ◌+◌, ◌<◌, min, List, [], ◌∷◌, ◌++◌, length, get_or, take, drop, set, sym, refl, ap, ◌∙◌, subst, append_assoc, arith}
+use Rattle.std.proofs.Common.{◌≡◌, ℕ, ◌+◌, ◌<◌, min, List, [], ◌∷◌, ◌++◌, length, get_or, take, drop, set, Ok, sym, refl, ap, ◌∙◌, subst, append_assoc, arith}
 use Rattle.std.proofs.lemmas.List.{append-nil, take_more, take_more_set, drop_more, drop-set-lt}
 use Rattle.line.specs.declared.lines.Line.{Ghosts}
+use Rattle.market.specs.Answers.{Answer}
 use Rattle.market.specs.declared.rank.BidRank.{BidRank}
 use Rattle.market.specs.declared.rank.OfferRank.{OfferRank}
 use Rattle.market.specs.declared.rank.EndTime.{EndTime}
 use Rattle.market.specs.declared.call.Call.{Call}
-use Rattle.market.specs.declared.answer.Answer.{Answer}
-use Rattle.market.specs.declared.answer.Answer.TheVariants.{Done}
+use Rattle.market.specs.declared.answer.Accepted.TheVariants.{Done}
 use Rattle.rules.specs.Board.{Opening, State}
 use Rattle.rules.specs.Calls.{step, run, answers, opened}
 use Rattle.lawful.specs.Lawful.{Lawful}
@@ -19,8 +19,8 @@ use Rattle.book.specs.Stands.{Stands, Follows, Played}
 pub rest_more : (xs ys : List Answer) (i : ℕ) (a : Answer) → i < length xs → i < length ys → drop i xs ≡ drop i ys →
     drop (i + 1) (set xs i a) ≡ drop (i + 1) ys
 rest_more xs ys i a l l' e =
-    let p = drop_more xs i Done l in
-    let q = drop_more ys i Done l' in
+    let p = drop_more xs i (Ok Done) l in
+    let q = drop_more ys i (Ok Done) l' in
     let same : drop (i + 1) xs ≡ drop (i + 1) ys = cc in
     drop-set-lt (i + 1) xs i a (omega arith) ∙ same
 

@@ -1,6 +1,6 @@
 //! The calls of a book.
-ghost use Rattle.std.specs.Prelude.{◌≡◌, false, List, [], is_ok};
-ghost use Rattle.market.specs.declared.answer.Answer.TheVariants.{Drawn};
+ghost use Rattle.std.specs.Prelude.{◌≡◌, false, List, [], is_ok, Ok};
+ghost use Rattle.market.specs.declared.answer.Accepted.TheVariants.{Drawn};
 ghost use Rattle.market.specs.declared.call.Call.{Call};
 ghost use Rattle.market.specs.declared.call.Call.TheVariants.{Entry, Change, Cancel, Tick, Draw};
 ghost use Rattle.rules.specs.Board.{Opening};
@@ -14,7 +14,7 @@ use crate::book::Book;
 use calls::{cancelling, changing, entering, glancing, opening, ticking};
 use drawing::machine;
 use line::lines::Line;
-use market::answer::{Answer, Summary};
+use market::answer::{Accepted, Answer, Summary};
 use market::call::{Call, OrderCancel, OrderChange, OrderEntry};
 use market::order::Side;
 use market::rank::{BidRank, EndTime, OfferRank};
@@ -66,7 +66,7 @@ impl<B: Line<BidRank> + Drop, O: Line<OfferRank> + Drop, E: Line<EndTime> + Drop
 
     /// The tape's next record.
     pub fn draw(&mut self) -> Record
-        ensures { Follows B.Line O.Line E.Line self.old self.new Draw (Drawn result) }
+        ensures { Follows B.Line O.Line E.Line self.old self.new Draw (Ok (Drawn result)) }
     {
         machine::draw(&mut self.memory)
     }
@@ -83,29 +83,11 @@ impl<B: Line<BidRank> + Drop, O: Line<OfferRank> + Drop, E: Line<EndTime> + Drop
         ensures { Follows B.Line O.Line E.Line self.old self.new call result }
     {
         match call {
-            Call::Entry(wanted) => entry_answer(self.enter(&wanted)),
-            Call::Change(wanted) => plain_answer(self.change(&wanted)),
-            Call::Cancel(wanted) => plain_answer(self.cancel(&wanted)),
-            Call::Tick { time } => plain_answer(self.tick(time)),
-            Call::Draw => Answer::Drawn(self.draw()),
+            Call::Entry(wanted) => self.enter(&wanted).map(Accepted::Entered),
+            Call::Change(wanted) => self.change(&wanted).map(|()| Accepted::Done),
+            Call::Cancel(wanted) => self.cancel(&wanted).map(|()| Accepted::Done),
+            Call::Tick { time } => self.tick(time).map(|()| Accepted::Done),
+            Call::Draw => Ok(Accepted::Drawn(self.draw())),
         }
-    }
-}
-
-fn entry_answer(res: Result<u32, Refusal>) -> Answer
-    ensures { result ≡ entry_answer res }
-{
-    match res {
-        Ok(number) => Answer::Entered(number),
-        Err(refusal) => Answer::Refused(refusal),
-    }
-}
-
-fn plain_answer(res: Result<(), Refusal>) -> Answer
-    ensures { result ≡ plain_answer res }
-{
-    match res {
-        Ok(()) => Answer::Done,
-        Err(refusal) => Answer::Refused(refusal),
     }
 }

@@ -1,5 +1,5 @@
 -- A cancel takes its order from the board and the lines. Assumes nothing.
-use Rattle.std.proofs.Common.{◌≡◌, IsErrAnd, Some, None, Option, Result, sym, refl, ap, ◌∙◌, subst}
+use Rattle.std.proofs.Common.{◌≡◌, IsErrAnd, Some, None, Ok, Option, Result, sym, refl, ap, ◌∙◌, subst}
 use Rattle.line.specs.declared.lines.Line.{Ghosts}
 use Rattle.market.specs.declared.order.Order.{Order}
 use Rattle.market.specs.declared.rank.BidRank.{BidRank}
@@ -8,7 +8,7 @@ use Rattle.market.specs.declared.rank.EndTime.{EndTime}
 use Rattle.market.specs.declared.call.OrderCancel.{OrderCancel}
 use Rattle.market.specs.declared.call.Call.TheVariants.{Cancel}
 use Rattle.market.specs.declared.refusal.Refusal.{Refusal}
-use Rattle.market.specs.declared.answer.Answer.TheVariants.{Done}
+use Rattle.market.specs.declared.answer.Accepted.TheVariants.{Done}
 use Rattle.rules.specs.Board.{Opening, Board, State}
 use Rattle.rules.specs.Members.{In}
 use Rattle.rules.specs.Standings.{standing}
@@ -35,7 +35,7 @@ module _ {B O E : Type 0} (bl : Ghosts B BidRank) (ol : Ghosts O OfferRank) (el 
       Replies bl ol el m k (plain_answer r) (step k S (Cancel c))
   unfolding step
   cancel-refused m k S c r x h e w =
-      refused bl ol el m k S _ Done (plain_answer r) _ x (ap (λ (b : Board). cancel_refusal b c.trader c.number) (sym w.board) ∙ e)
+      refused bl ol el m k S _ (Ok Done) (plain_answer r) _ x (ap (λ (b : Board). cancel_refusal b c.trader c.number) (sym w.board) ∙ e)
       (ap (λ (z : Result (Unit {0}) Refusal). plain_answer z) (broken r h)) w
 
   -- the board and the reserves let the order go, then the lines
@@ -62,10 +62,10 @@ module _ {B O E : Type 0} (bl : Ghosts B BidRank) (ol : Ghosts O OfferRank) (el 
       Shows bl ol el m k S → Untouched bl ol el m m₁ →
       Cancels o (board_of m.board) (board_of m₁.board) (items m.reserves) (items m₁.reserves) →
       old ≡ entries_of (board_of m.board) o → new ≡ no_entries → Relisted bl ol el m₁ m' old new →
-      Replies bl ol el m' k Done (step k S (Cancel c))
+      Replies bl ol el m' k (Ok Done) (step k S (Cancel c))
   unfolding step
   cancel-done m m₁ m' k S c o old new sound h w u done e f made =
       let found : owned S.board c.trader c.number ≡ Some o = ap (λ (b : Board). owned b c.trader c.number) (sym w.board) ∙ h.1 in
-      accepted bl ol el m' k S _ Done Done _ (ap (λ (b : Board). cancel_refusal b c.trader c.number) (sym w.board) ∙ h.0) refl
+      accepted bl ol el m' k S _ (Ok Done) (Ok Done) _ (ap (λ (b : Board). cancel_refusal b c.trader c.number) (sym w.board) ∙ h.0) refl
       (subst (λ (x : Option Order). Shows bl ol el m' k (cancelled_state S x)) (sym found)
       (cancelled m m₁ m' k S o old new sound w (owned_in S.board c.trader c.number o found).0 u done e f made))

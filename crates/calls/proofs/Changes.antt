@@ -1,5 +1,5 @@
 -- A change ranks its order anew, and leaves the others as they stood. Assumes nothing.
-use Rattle.std.proofs.Common.{◌≡◌, ℕ, Bool, true, false, IsErrAnd, Some, None, Option, Result, sym, refl, ap, ◌∙◌, subst}
+use Rattle.std.proofs.Common.{◌≡◌, ℕ, Bool, true, false, IsErrAnd, Some, None, Ok, Option, Result, sym, refl, ap, ◌∙◌, subst}
 use Rattle.line.specs.declared.lines.Line.{Ghosts}
 use Rattle.market.specs.declared.settings.Settings.{Settings}
 use Rattle.market.specs.declared.order.Order.{Order}
@@ -11,7 +11,7 @@ use Rattle.market.specs.declared.rank.EndTime.{EndTime}
 use Rattle.market.specs.declared.call.OrderChange.{OrderChange}
 use Rattle.market.specs.declared.call.Call.TheVariants.{Change}
 use Rattle.market.specs.declared.refusal.Refusal.{Refusal}
-use Rattle.market.specs.declared.answer.Answer.TheVariants.{Done}
+use Rattle.market.specs.declared.answer.Accepted.TheVariants.{Done}
 use Rattle.rules.specs.Base.{write}
 use Rattle.rules.specs.Board.{Opening, Board, State, Table}
 use Rattle.rules.specs.Members.{In}
@@ -58,7 +58,7 @@ module _ {B O E : Type 0} (bl : Ghosts B BidRank) (ol : Ghosts O OfferRank) (el 
       Replies bl ol el m k (plain_answer r) (step k S (Change c))
   unfolding step
   change-refused m k S c r x h told w =
-      refused bl ol el m k S _ Done (plain_answer r) _ x (told_here m k S c (Some x) w told)
+      refused bl ol el m k S _ (Ok Done) (plain_answer r) _ x (told_here m k S c (Some x) w told)
       (ap (λ (z : Result (Unit {0}) Refusal). plain_answer z) (broken r h)) w
 
   -- the board and the reserves are written anew, then the lines
@@ -87,11 +87,11 @@ module _ {B O E : Type 0} (bl : Ghosts B BidRank) (ol : Ghosts O OfferRank) (el 
       Shows bl ol el m k S → Untouched bl ol el m m₁ →
       Changes c o o' (board_of m.board) (board_of m₁.board) (items m.reserves) (items m₁.reserves) →
       old ≡ entries_of (board_of m.board) o → new ≡ entries_of (board_of m₁.board) o' → Relisted bl ol el m₁ m' old new →
-      Replies bl ol el m' k Done (step k S (Change c))
+      Replies bl ol el m' k (Ok Done) (step k S (Change c))
   unfolding step
   change-done m m₁ m' k S c o o' old new sound h w u done e f made =
       let here = sym (ap (λ (x : Opening). x.settings) w.opening) in
       let found : owned S.board c.trader c.number ≡ Some o = ap (λ (b : Board). owned b c.trader c.number) (sym w.board) ∙ (h k here).1 in
-      accepted bl ol el m' k S _ Done Done _ (told_here m k S c None w (λ j i. (h j i).0)) refl
+      accepted bl ol el m' k S _ (Ok Done) (Ok Done) _ (told_here m k S c None w (λ j i. (h j i).0)) refl
       (subst (λ (x : Option Order). Shows bl ol el m' k (changed_state S c x)) (sym found)
       (changed-shown m m₁ m' k S c o o' old new sound w (owned_in S.board c.trader c.number o found).0 u done e f made))

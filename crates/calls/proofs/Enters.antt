@@ -15,7 +15,7 @@ use Rattle.market.specs.declared.call.OrderEntry.{OrderEntry}
 use Rattle.market.specs.declared.call.Call.TheVariants.{Entry}
 use Rattle.market.specs.declared.refusal.Refusal.{Refusal}
 use Rattle.market.specs.declared.refusal.Refusal.TheVariants.{Line}
-use Rattle.market.specs.declared.answer.Answer.TheVariants.{Entered}
+use Rattle.market.specs.declared.answer.Accepted.TheVariants.{Entered}
 use Rattle.rules.specs.Base.{is_some, or_next, some_if, count, write}
 use Rattle.rules.specs.Board.{Opening, Board, State, Table, same, on}
 use Rattle.rules.specs.Standings.{standing_in, standing}
@@ -132,10 +132,10 @@ module _ {B O E : Type 0} (bl : Ghosts B BidRank) (ol : Ghosts O OfferRank) (el 
       Shows bl ol el m k S → Untouched bl ol el m m₁ →
       Enters e o (board_of m.board) (board_of m₁.board) (items m.reserves) (items m₁.reserves) →
       new ≡ entries_of (board_of m₁.board) o → Enlisted bl ol el m₁ m' new →
-      Replies bl ol el m' k (Entered o.number) (step k S (Entry e))
+      Replies bl ol el m' k (Ok (Entered o.number)) (step k S (Entry e))
   unfolding step line_full entered
   entry_done m m₁ m' k S e o new sound screens x y w u done f made =
       let none : Refusal-is k S e None = refusal_is m k S e None false w screens (none-full _ _ (passed _ _ x) (passed _ _ y)) in
       accepted bl ol el m' k S _ _ _ _ none
-      (ap (λ (z : Order). Entered z.number) done.order ∙ ap (λ (v : Board). Entered v.counters.number) w.board)
+      (ap (λ (z : Order). Ok (Entered z.number)) done.order ∙ ap (λ (v : Board). Ok (Entered v.counters.number)) w.board)
       (entered-shown m m₁ m' k S e o new sound w (entry-passes k S.board e none) u done f made)

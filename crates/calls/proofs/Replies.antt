@@ -1,12 +1,11 @@
 -- A call is refused, and the book stays; or accepted. Assumes nothing.
 use Rattle.std.proofs.Common.{◌≡◌, IsErrAnd, Some, None, Ok, Err, Option, Result, sym, ap, subst}
 use Rattle.line.specs.declared.lines.Line.{Ghosts}
+use Rattle.market.specs.Answers.{Answer}
 use Rattle.market.specs.declared.rank.BidRank.{BidRank}
 use Rattle.market.specs.declared.rank.OfferRank.{OfferRank}
 use Rattle.market.specs.declared.rank.EndTime.{EndTime}
 use Rattle.market.specs.declared.refusal.Refusal.{Refusal}
-use Rattle.market.specs.declared.answer.Answer.{Answer}
-use Rattle.market.specs.declared.answer.Answer.TheVariants.{Refused}
 use Rattle.rules.specs.Board.{Opening, State}
 use Rattle.rules.specs.Calls.{replied}
 use Rattle.memory.specs.declared.memory.Memory.{Memory}
@@ -22,7 +21,7 @@ module _ {B O E : Type 0} (bl : Ghosts B BidRank) (ol : Ghosts O OfferRank) (el 
   abbrev pub Replies : Memory B O E → Opening → Answer → Answer × State → Type 0
   Replies m k a reply = Shows bl ol el m k reply.1 × (a ≡ reply.0)
 
-  pub refused : (m : Memory B O E) (k : Opening) (S S' : State) (a b : Answer) (q : Option Refusal) (r : Refusal) → q ≡ Some r → b ≡ Refused r →
+  pub refused : (m : Memory B O E) (k : Opening) (S S' : State) (a b : Answer) (q : Option Refusal) (r : Refusal) → q ≡ Some r → b ≡ Err r →
       Shows bl ol el m k S → Replies m k b (replied q a S S')
   refused m k S S' a b q r e f w = subst (λ (x : Option Refusal). Replies m k b (replied x a S S')) (sym e) (w, f)
 

@@ -1,12 +1,12 @@
 -- A tick leaves orders and lines alone. Assumes nothing.
-use Rattle.std.proofs.Common.{◌≡◌, ℕ, IsErrAnd, Some, None, Result, sym, refl, ap, ◌∙◌}
+use Rattle.std.proofs.Common.{◌≡◌, ℕ, IsErrAnd, Some, None, Ok, Result, sym, refl, ap, ◌∙◌}
 use Rattle.line.specs.declared.lines.Line.{Ghosts}
 use Rattle.market.specs.declared.rank.BidRank.{BidRank}
 use Rattle.market.specs.declared.rank.OfferRank.{OfferRank}
 use Rattle.market.specs.declared.rank.EndTime.{EndTime}
 use Rattle.market.specs.declared.call.Call.TheVariants.{Tick}
 use Rattle.market.specs.declared.refusal.Refusal.{Refusal}
-use Rattle.market.specs.declared.answer.Answer.TheVariants.{Done}
+use Rattle.market.specs.declared.answer.Accepted.TheVariants.{Done}
 use Rattle.rules.specs.Board.{Opening, Board, State}
 use Rattle.rules.specs.Standings.{standing}
 use Rattle.rules.specs.Refusing.{tick_refusal}
@@ -25,7 +25,7 @@ module _ {B O E : Type 0} (bl : Ghosts B BidRank) (ol : Ghosts O OfferRank) (el 
       Replies bl ol el m k (plain_answer r) (step k S (Tick t))
   unfolding step
   tick-refused m k S t r x h e w =
-      refused bl ol el m k S _ Done (plain_answer r) _ x (ap (λ (b : Board). tick_refusal b t) (sym w.board) ∙ e)
+      refused bl ol el m k S _ (Ok Done) (plain_answer r) _ x (ap (λ (b : Board). tick_refusal b t) (sym w.board) ∙ e)
       (ap (λ (z : Result (Unit {0}) Refusal). plain_answer z) (broken r h)) w
 
   ticked : (m m' : Memory B O E) (k : Opening) (S : State) (t : ℕ) → Shows bl ol el m k S → Untouched bl ol el m m' → m'.reserves ≡ m.reserves →
@@ -37,7 +37,7 @@ module _ {B O E : Type 0} (bl : Ghosts B BidRank) (ol : Ghosts O OfferRank) (el 
 
   pub tick-done : (m m' : Memory B O E) (k : Opening) (S : State) (t : ℕ) → tick_refusal (board_of m.board) t ≡ None → Shows bl ol el m k S →
       Untouched bl ol el m m' → m'.reserves ≡ m.reserves → board_of m'.board ≡ ticked_board (board_of m.board) t →
-      Replies bl ol el m' k Done (step k S (Tick t))
+      Replies bl ol el m' k (Ok Done) (step k S (Tick t))
   unfolding step
   tick-done m m' k S t e w u r f =
-      accepted bl ol el m' k S _ Done Done _ (ap (λ (b : Board). tick_refusal b t) (sym w.board) ∙ e) refl (ticked m m' k S t w u r f)
+      accepted bl ol el m' k S _ (Ok Done) (Ok Done) _ (ap (λ (b : Board). tick_refusal b t) (sym w.board) ∙ e) refl (ticked m m' k S t w u r f)

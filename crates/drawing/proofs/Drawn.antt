@@ -1,12 +1,12 @@
 -- A step that is due is a draw; and what is never due. Assumes nothing.
-use Rattle.std.proofs.Common.{◌≡◌, ℕ, false, ◌&&◌, sym, ap, ◌∙◌, subst}
+use Rattle.std.proofs.Common.{◌≡◌, ℕ, false, ◌&&◌, Ok, sym, ap, ◌∙◌, subst}
 use Rattle.std.proofs.lemmas.Bool.{and_parts, both_ways}
 use Rattle.line.specs.declared.lines.Line.{Ghosts}
 use Rattle.market.specs.declared.order.Order.{Order}
 use Rattle.market.specs.declared.state.Phase.{Phase}
 use Rattle.market.specs.declared.state.Phase.TheVariants.{Open}
 use Rattle.market.specs.declared.record.Record.{Record}
-use Rattle.market.specs.declared.answer.Answer.TheVariants.{Drawn}
+use Rattle.market.specs.declared.answer.Accepted.TheVariants.{Drawn}
 use Rattle.market.specs.declared.rank.BidRank.{BidRank}
 use Rattle.market.specs.declared.rank.OfferRank.{OfferRank}
 use Rattle.market.specs.declared.rank.EndTime.{EndTime}
@@ -29,7 +29,7 @@ module _ {B O E : Type 0} (bl : Ghosts B BidRank) (ol : Ghosts O OfferRank) (el 
       let e = due k S sound w in
       let done = does k S sound w (sym e) in (
         subst (λ (x : Step). Shows bl ol el m' k (after S x)) e done.0,
-        ap Drawn (done.1 ∙ ap (record_of S.hidden S.board) e),
+        ap (λ (z : Record). Ok (Drawn z)) (done.1 ∙ ap (record_of S.hidden S.board) e),
       )
 
   phase-there : (m : Memory B O E) (k : Opening) (S : State) (p : Phase) → Shows bl ol el m k S → m.board.phase ≡ p → S.board.phase ≡ p

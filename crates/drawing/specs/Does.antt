@@ -1,5 +1,5 @@
 -- How a book in memory does a step of a draw. Assumes nothing.
-use Rattle.std.specs.Prelude.{◌≡◌, ℕ}
+use Rattle.std.specs.Prelude.{◌≡◌, ℕ, Ok}
 use Rattle.line.specs.declared.lines.Line.{Ghosts}
 use Rattle.market.specs.declared.order.Order.{Order}
 use Rattle.market.specs.declared.rank.BidRank.{BidRank}
@@ -7,7 +7,7 @@ use Rattle.market.specs.declared.rank.OfferRank.{OfferRank}
 use Rattle.market.specs.declared.rank.EndTime.{EndTime}
 use Rattle.market.specs.declared.record.Record.{Record}
 use Rattle.market.specs.declared.call.Call.TheVariants.{Draw}
-use Rattle.market.specs.declared.answer.Answer.TheVariants.{Drawn}
+use Rattle.market.specs.declared.answer.Accepted.TheVariants.{Drawn}
 use Rattle.rules.specs.Board.{Opening, State}
 use Rattle.rules.specs.Draws.{Step, decided, record_of, board_after, hidden_after, removed_board}
 use Rattle.rules.specs.Calls.{step}
@@ -37,4 +37,4 @@ module _ {B O E : Type 0} (bl : Ghosts B BidRank) (ol : Ghosts O OfferRank) (el 
   abbrev pub Draws : Memory B O E → Memory B O E → Record → Type 0
   Draws m m' r =
       (k : Opening) (S : State) → Sound k S → Shows bl ol el m k S →
-      Shows bl ol el m' k (step k S Draw).1 × (Drawn r ≡ (step k S Draw).0)
+      Shows bl ol el m' k (step k S Draw).1 × (Ok (Drawn r) ≡ (step k S Draw).0)

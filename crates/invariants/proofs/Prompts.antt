@@ -1,13 +1,13 @@
 -- The tape comes to rest promptly, in every run. Assumes nothing.
-use Rattle.std.proofs.Common.{◌≡◌, ℕ, zero, suc, ◌<◌, ◌≤◌, Bool, true, false, ◌⊎◌, List, [], ◌∷◌, ◌++◌, length, take, drop, Some, None, Option, sym, refl, ap, ◌∙◌, subst, inl, inr, arith}
+use Rattle.std.proofs.Common.{◌≡◌, ℕ, zero, suc, ◌<◌, ◌≤◌, Bool, true, false, ◌⊎◌, List, [], ◌∷◌, ◌++◌, length, take, drop, Some, None, Ok, Err, Option, sym, refl, ap, ◌∙◌, subst, inl, inr, arith}
 use lib.Seq.{take-append_seam, drop-append_seam}
 use Rattle.std.proofs.lemmas.Bool.{true≢false}
+use Rattle.market.specs.Answers.{Answer}
 use Rattle.market.specs.declared.record.Record.TheVariants.{Quiet}
 use Rattle.market.specs.declared.call.Call.{Call}
 use Rattle.market.specs.declared.call.Call.TheVariants.{Entry, Change, Cancel, Tick, Draw}
 use Rattle.market.specs.declared.refusal.Refusal.{Refusal}
-use Rattle.market.specs.declared.answer.Answer.{Answer}
-use Rattle.market.specs.declared.answer.Answer.TheVariants.{Refused, Entered, Done}
+use Rattle.market.specs.declared.answer.Accepted.TheVariants.{Entered, Done}
 use Rattle.rules.specs.Board.{Opening, State}
 use Rattle.rules.specs.Draws.{decided, record_of, draw}
 use Rattle.rules.specs.Refusing.{is_size, owned, entry_refusal, change_refusal, cancel_refusal, tick_refusal}
@@ -35,21 +35,21 @@ next k S q r = go (is_rest (decided k S.board)) refl
 
 -- a call that is refused leaves the state
 refused : (r : Option Refusal) (a : Answer) (S S' : State) → is_accepted a ≡ true → is_accepted (replied r a S S').0 ≡ false →
-    (s : Refusal) × (replied r a S S' ≡ (Refused s, S))
+    (s : Refusal) × (replied r a S S' ≡ (Err s, S))
 refused None a S S' t f = absurd (true≢false (sym t ∙ f))
 refused (Some s) a S S' t f = (s, refl)
 
 -- a draw that is answered, or a call that is refused
-unanswered : (k : Opening) (S : State) (c : Call) → is_accepted (step k S c).0 ≡ false → (c ≡ Draw) ⊎ ((s : Refusal) × (step k S c ≡ (Refused s, S)))
+unanswered : (k : Opening) (S : State) (c : Call) → is_accepted (step k S c).0 ≡ false → (c ≡ Draw) ⊎ ((s : Refusal) × (step k S c ≡ (Err s, S)))
 unfolding step
 unanswered k S (Entry e) f =
-    inr (refused (entry_refusal k S.board e (is_size k e.reserve)) (Entered S.board.counters.number) S (entered_state S e) refl f)
+    inr (refused (entry_refusal k S.board e (is_size k e.reserve)) (Ok (Entered S.board.counters.number)) S (entered_state S e) refl f)
 unanswered k S (Change c) f =
-    inr (refused (change_refusal k S.board c (is_size k c.reserve)) Done S (changed_state S c (owned S.board c.trader c.number)) refl f)
+    inr (refused (change_refusal k S.board c (is_size k c.reserve)) (Ok Done) S (changed_state S c (owned S.board c.trader c.number)) refl f)
 unanswered k S (Cancel c) f =
-    inr (refused (cancel_refusal S.board c.trader c.number) Done S (cancelled_state S (owned S.board c.trader c.number)) refl f)
+    inr (refused (cancel_refusal S.board c.trader c.number) (Ok Done) S (cancelled_state S (owned S.board c.trader c.number)) refl f)
 unanswered k S (Tick t) f =
-    inr (refused (tick_refusal S.board t) Done S (record { board = ticked_board S.board t; hidden = S.hidden }) refl f)
+    inr (refused (tick_refusal S.board t) (Ok Done) S (record { board = ticked_board S.board t; hidden = S.hidden }) refl f)
 unanswered k S Draw f = inl refl
 
 -- quiet is among the first n records that these calls draw
@@ -73,7 +73,7 @@ unfolding answers
 settles k [] S n q r l f m = absurd (omega arith)
 settles k (c ∷ ds) S n q r l f m = go (unanswered k S c f.0) (settles k ds)
   where
-    go : (c ≡ Draw) ⊎ ((s : Refusal) × (step k S c ≡ (Refused s, S))) →
+    go : (c ≡ Draw) ⊎ ((s : Refusal) × (step k S c ≡ (Err s, S))) →
         ((T : State) (n : ℕ) → Sound k T → Steady k T → weight k T < n → Quietens k T ds n) → TellsQuiet (take n (tape (answers k S (c ∷ ds))))
     go (inl e) ih =
         let d = after-draw k S ds n q r l (λ m. ih (step k S Draw).1 m (call-sound k S Draw q) (call-steady k S Draw r)) in

@@ -1,6 +1,7 @@
 -- Every call keeps the book sound, and so does every run of calls. Assumes nothing.
 use Rattle.std.proofs.Common.{◌≡◌, ℕ, ◌+◌, ◌^◌, ◌<◌, ◌≤◌, Bool, true, false, cond, ◌&&◌, ltb, leb, ◌⊎◌, List, [], ◌∷◌, ◌++◌, ℤ, Some, None, Option, sym, refl, ◌∙◌, subst, inl, inr, le_trans, le_refl, arith}
 use Rattle.std.proofs.lemmas.Bool.{or_parts, leb-false}
+use Rattle.market.specs.Answers.{Answer}
 use Rattle.market.specs.declared.order.Side.{Side}
 use Rattle.market.specs.declared.order.Order.{Order}
 use Rattle.market.specs.declared.state.Counters.{Counters}
@@ -9,7 +10,6 @@ use Rattle.market.specs.declared.call.OrderChange.{OrderChange}
 use Rattle.market.specs.declared.call.Call.{Call}
 use Rattle.market.specs.declared.call.Call.TheVariants.{Entry, Change, Cancel, Tick, Draw}
 use Rattle.market.specs.declared.refusal.Refusal.{Refusal}
-use Rattle.market.specs.declared.answer.Answer.{Answer}
 use Rattle.rules.specs.Base.{count, write}
 use Rattle.rules.specs.Board.{Opening, Board, State, better, in_session}
 use Rattle.rules.specs.Fills.{replace}

@@ -1,5 +1,5 @@
 -- What holds of prices, priors and fills in every state that calls lead to. Assumes nothing.
-use Rattle.std.specs.Prelude.{◌≡◌, ℕ, ◌<◌, true, false, ◌⊎◌, List, ◌≤ℤ◌, Some}
+use Rattle.std.specs.Prelude.{◌≡◌, ℕ, ◌<◌, true, false, ◌⊎◌, List, ◌≤ℤ◌, Some, Ok}
 use Rattle.market.specs.declared.order.Side.{Side}
 use Rattle.market.specs.declared.order.Side.TheVariants.{Bid, Offer}
 use Rattle.market.specs.declared.order.OrderType.TheVariants.{FaK, FaKI}
@@ -10,7 +10,7 @@ use Rattle.market.specs.declared.record.Fill.{Fill}
 use Rattle.market.specs.declared.record.Record.TheVariants.{Fill as FillRecord}
 use Rattle.market.specs.declared.call.Call.{Call}
 use Rattle.market.specs.declared.call.Call.TheVariants.{Draw}
-use Rattle.market.specs.declared.answer.Answer.TheVariants.{Drawn}
+use Rattle.market.specs.declared.answer.Accepted.TheVariants.{Drawn}
 use Rattle.rules.specs.Base.{is_some}
 use Rattle.rules.specs.Board.{Opening, Board, better, meet, in_session, is_open}
 use Rattle.rules.specs.Entitlement.{entitled, first_entitled}
@@ -97,5 +97,5 @@ pub record OfTwo (b : Board) (f : Fill) : Type 0 where
 
 abbrev pub FillsOfTwo : Type 0
 FillsOfTwo =
-    (k : Opening) (calls : List Call) (time : ℕ) (f : Fill) → (step k (run k opened calls) Draw).0 ≡ Drawn (FillRecord time f) →
+    (k : Opening) (calls : List Call) (time : ℕ) (f : Fill) → (step k (run k opened calls) Draw).0 ≡ Ok (Drawn (FillRecord time f)) →
     OfTwo (run k opened calls).board f

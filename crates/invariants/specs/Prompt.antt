@@ -1,10 +1,10 @@
 -- The tape comes to rest promptly. Assumes nothing.
-use Rattle.std.specs.Prelude.{◌≡◌, ℕ, ◌+◌, ◌/◌, ◌≤◌, Bool, true, false, List, [], ◌∷◌, ◌++◌, length, take, drop}
+use Rattle.std.specs.Prelude.{◌≡◌, ℕ, ◌+◌, ◌/◌, ◌≤◌, Bool, true, false, List, [], ◌∷◌, ◌++◌, length, take, drop, Ok, Err}
+use Rattle.market.specs.Answers.{Answer}
 use Rattle.market.specs.declared.call.Call.{Call}
 use Rattle.market.specs.declared.record.Record.{Record}
 use Rattle.market.specs.declared.record.Record.TheVariants.{Quiet}
-use Rattle.market.specs.declared.answer.Answer.{Answer}
-use Rattle.market.specs.declared.answer.Answer.TheVariants.{Refused, Entered, Done, Drawn}
+use Rattle.market.specs.declared.answer.Accepted.TheVariants.{Entered, Done, Drawn}
 use Rattle.rules.specs.Board.{Opening, State, lot}
 use Rattle.rules.specs.Calls.{run, answers, opened}
 use Rattle.rules.specs.Members.{In}
@@ -19,10 +19,10 @@ live S = length S.board.orders
 
 -- an accepted entry, change, cancel or tick
 abbrev pub is_accepted : Answer → Bool
-is_accepted (Refused r) = false
-is_accepted (Entered n) = true
-is_accepted Done = true
-is_accepted (Drawn r) = false
+is_accepted (Err r) = false
+is_accepted (Ok (Entered n)) = true
+is_accepted (Ok Done) = true
+is_accepted (Ok (Drawn r)) = false
 
 -- the last answer is to such a call, or there is none yet
 abbrev pub JustAccepted : List Answer → Type 0
@@ -38,10 +38,10 @@ NoneAccepted (a ∷ rest) = (is_accepted a ≡ false) × NoneAccepted rest
 -- the records of the draws
 abbrev pub tape : List Answer → List Record
 tape [] = []
-tape (Refused r ∷ rest) = tape rest
-tape (Entered n ∷ rest) = tape rest
-tape (Done ∷ rest) = tape rest
-tape (Drawn r ∷ rest) = r ∷ tape rest
+tape (Err r ∷ rest) = tape rest
+tape (Ok (Entered n) ∷ rest) = tape rest
+tape (Ok Done ∷ rest) = tape rest
+tape (Ok (Drawn r) ∷ rest) = r ∷ tape rest
 
 abbrev pub TellsQuiet : List Record → Type 0
 TellsQuiet rs = (time : ℕ) × In (Quiet time) rs

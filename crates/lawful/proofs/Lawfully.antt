@@ -1,9 +1,9 @@
 -- The answers that the rules define keep the three laws. Assumes nothing.
-use Rattle.std.proofs.Common.{◌≡◌, ℕ, suc, List, [], ◌∷◌, ◌++◌, length, drop, sym, refl, ap, ◌∙◌, subst, arith}
+use Rattle.std.proofs.Common.{◌≡◌, ℕ, suc, List, [], ◌∷◌, ◌++◌, length, drop, Ok, sym, refl, ap, ◌∙◌, subst, arith}
+use Rattle.market.specs.Answers.{Answer}
 use Rattle.market.specs.declared.call.Call.{Call}
 use Rattle.market.specs.declared.call.Call.TheVariants.{Draw}
-use Rattle.market.specs.declared.answer.Answer.{Answer}
-use Rattle.market.specs.declared.answer.Answer.TheVariants.{Drawn}
+use Rattle.market.specs.declared.answer.Accepted.TheVariants.{Drawn}
 use Rattle.rules.specs.Board.{Opening, State}
 use Rattle.rules.specs.Calls.{step, run, answers, opened}
 use Rattle.laws.specs.Hidden.{Lesson, learned}
@@ -53,9 +53,9 @@ fairly k earlier calls before after told_before told_after r is told same =
     let S = run k opened earlier in
     let split : answers k S calls ≡ answers k S before ++ ((step k (run k S before) Draw).0 ∷ answers k (step k (run k S before) Draw).1 after) =
     ap (answers k S) is ∙ answers-append k S before (Draw ∷ after) in
-    let here : Drawn r ≡ (step k (run k S before) Draw).0 =
-    behind told_before (answers k S before) (Drawn r) (step k (run k S before) Draw).0 told_after _ (sym told ∙ split) (same ∙ sym (answers-length k S before)) in
-    let there : (step k (run k opened (earlier ++ before)) Draw).0 ≡ Drawn r =
+    let here : Ok (Drawn r) ≡ (step k (run k S before) Draw).0 =
+    behind told_before (answers k S before) (Ok (Drawn r)) (step k (run k S before) Draw).0 told_after _ (sym told ∙ split) (same ∙ sym (answers-length k S before)) in
+    let there : (step k (run k opened (earlier ++ before)) Draw).0 ≡ Ok (Drawn r) =
     ap (λ (X : State). (step k X Draw).0) (run-append k opened earlier before) ∙ sym here in
     fair k (earlier ++ before) r there
 

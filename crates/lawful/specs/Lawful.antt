@@ -1,12 +1,12 @@
 -- The three laws of the answers to a run of calls, which come after earlier calls from an opening. Assumes nothing.
-use Rattle.std.specs.Prelude.{◌≡◌, ℕ, not, List, [], ◌∷◌, ◌++◌, length, drop, Some}
+use Rattle.std.specs.Prelude.{◌≡◌, ℕ, not, List, [], ◌∷◌, ◌++◌, length, drop, Some, Ok}
 use Rattle.std.specs.List.{AllZip}
+use Rattle.market.specs.Answers.{Answer}
 use Rattle.market.specs.declared.order.Side.TheVariants.{Bid, Offer}
 use Rattle.market.specs.declared.record.Record.{Record}
 use Rattle.market.specs.declared.call.Call.{Call}
 use Rattle.market.specs.declared.call.Call.TheVariants.{Draw}
-use Rattle.market.specs.declared.answer.Answer.{Answer}
-use Rattle.market.specs.declared.answer.Answer.TheVariants.{Drawn}
+use Rattle.market.specs.declared.answer.Accepted.TheVariants.{Drawn}
 use Rattle.rules.specs.Base.{names, only_if}
 use Rattle.rules.specs.Board.{Opening, State}
 use Rattle.rules.specs.Calls.{step, run, answers, opened}
@@ -20,7 +20,7 @@ use Rattle.invariants.specs.Prompt.{PromptRun}
 abbrev pub FairRun : Opening → List Call → List Call → List Answer → Type 0
 FairRun k earlier calls told =
     (before after : List Call) (told_before told_after : List Answer) (r : Record) → calls ≡ before ++ (Draw ∷ after) →
-    told ≡ told_before ++ (Drawn r ∷ told_after) → length told_before ≡ length before → FairAt (run k opened (earlier ++ before)).board r
+    told ≡ told_before ++ (Ok (Drawn r) ∷ told_after) → length told_before ≡ length before → FairAt (run k opened (earlier ++ before)).board r
 
 -- what all but trader t learn from a call that is told this answer, and of the state after it: the answer if the call is not his, and
 -- both summaries

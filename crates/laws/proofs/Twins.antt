@@ -1,7 +1,8 @@
 -- Two runs that differ in reserves: a call, and a list of calls. Assumes nothing.
-use Rattle.std.proofs.Common.{◌≡◌, ℕ, ◌<◌, Bool, true, false, cond, not, ◌&&◌, eqb, ◌⊎◌, List, [], ◌∷◌, Some, None, Option, refl, ap, subst, ap₂, inl, inr, arith}
+use Rattle.std.proofs.Common.{◌≡◌, ℕ, ◌<◌, Bool, true, false, cond, not, ◌&&◌, eqb, ◌⊎◌, List, [], ◌∷◌, Some, None, Ok, Err, Option, refl, ap, subst, ap₂, inl, inr, arith}
 use Rattle.std.specs.List.{AllZip}
 use Rattle.std.proofs.lemmas.Bool.{and_parts, eqb-true, cases_eq}
+use Rattle.market.specs.Answers.{Answer}
 use Rattle.market.specs.declared.order.Side.TheVariants.{Bid, Offer}
 use Rattle.market.specs.declared.order.Order.{Order}
 use Rattle.market.specs.declared.state.Privilege.{Privilege}
@@ -13,8 +14,7 @@ use Rattle.market.specs.declared.record.Record.{Record}
 use Rattle.market.specs.declared.refusal.BookFault.TheVariants.{NotQuiet, Trader, Order as Unknown}
 use Rattle.market.specs.declared.refusal.Refusal.{Refusal}
 use Rattle.market.specs.declared.refusal.Refusal.TheVariants.{Book}
-use Rattle.market.specs.declared.answer.Answer.{Answer}
-use Rattle.market.specs.declared.answer.Answer.TheVariants.{Refused, Entered, Done, Drawn}
+use Rattle.market.specs.declared.answer.Accepted.TheVariants.{Entered, Done, Drawn}
 use Rattle.rules.specs.Base.{names, only_if, verdict, write}
 use Rattle.rules.specs.Board.{Opening, Board, State, Table, better, is_fbs, numbered}
 use Rattle.rules.specs.Draws.{decided, hidden_after, draw}
@@ -63,8 +63,8 @@ near-written v v' h h' k r r' w near = record { agree = λ n. agrees n (eqb n k)
 module _ (v v' h h' : ℕ → ℕ) (near : Near v v' h h') where
   -- an entry of order n
   enters : (e e' : OrderEntry) (n : ℕ) (x : Option Refusal) (b b₁ b₂ : Board) → b₁ ≡ b₂ → Written e.reserve e'.reserve →
-      Answered v v' (Entry e) (Entry e') (replied x (Entered n) (at b h) (at b₁ (write n e.reserve h)))
-      (replied x (Entered n) (at b h') (at b₂ (write n e'.reserve h')))
+      Answered v v' (Entry e) (Entry e') (replied x (Ok (Entered n)) (at b h) (at b₁ (write n e.reserve h)))
+      (replied x (Ok (Entered n)) (at b h') (at b₂ (write n e'.reserve h')))
   enters e e' n None b b₁ b₂ boards w =
       record { answer = refl; after = record { board = boards; near = near-written v v' h h' n e.reserve e'.reserve w near } }
   enters e e' n (Some x) b b₁ b₂ boards w = record { answer = refl; after = record { board = refl; near = near } }
@@ -73,8 +73,8 @@ module _ (v v' h h' : ℕ → ℕ) (near : Near v v' h h') where
   rewrites : (c c' : OrderChange) (x : Option Refusal) (b : Board) (o : Option Order) → (o ≡ None → (y : Refusal) × (x ≡ Some y)) →
       ((p : Order) → o ≡ Some p → p.number ≡ c.number) → c.number ≡ c'.number →
       ((p : Order) → changed_board b c p ≡ changed_board b c' p) → Written c.reserve c'.reserve →
-      Answered v v' (Change c) (Change c') (replied x Done (at b h) (changed_state (at b h) c o))
-      (replied x Done (at b h') (changed_state (at b h') c' o))
+      Answered v v' (Change c) (Change c') (replied x (Ok Done) (at b h) (changed_state (at b h) c o))
+      (replied x (Ok Done) (at b h') (changed_state (at b h') c' o))
   rewrites c c' None b None refused named number boards w = absurd (none≢some (refused refl).1)
   rewrites c c' (Some x) b None refused named number boards w = record { answer = refl; after = record { board = refl; near = near } }
   rewrites c c' None b (Some o) refused named number boards w =
@@ -92,10 +92,10 @@ module _ (v v' h h' : ℕ → ℕ) (near : Near v v' h h') where
   -- ---- a call that writes none
 
   leaves : (c : Call) (x : Option Refusal) (b b₁ : Board) → ((a : Answer) (w : ℕ → ℕ) → noted c a w ≡ w) →
-      Answered v v' c c (replied x Done (at b h) (at b₁ h)) (replied x Done (at b h') (at b₁ h'))
-  leaves c None b b₁ still = record { answer = refl; after = record { board = refl; near = rw (still Done v, still Done v') near } }
+      Answered v v' c c (replied x (Ok Done) (at b h) (at b₁ h)) (replied x (Ok Done) (at b h') (at b₁ h'))
+  leaves c None b b₁ still = record { answer = refl; after = record { board = refl; near = rw (still (Ok Done) v, still (Ok Done) v') near } }
   leaves c (Some x) b b₁ still =
-      record { answer = refl; after = record { board = refl; near = rw (still (Refused x) v, still (Refused x) v') near } }
+      record { answer = refl; after = record { board = refl; near = rw (still (Err x) v, still (Err x) v') near } }
 
 -- ---- one call
 
@@ -184,8 +184,8 @@ one-call k t v v' b h h' _ _ near (same (Cancel c)) kept = go (owned b c.trader 
     x : Option Refusal
     x = cancel_refusal b c.trader c.number
 
-    go : (o : Option Order) → Answered v v' (Cancel c) (Cancel c) (replied x Done (at b h) (cancelled_state (at b h) o))
-        (replied x Done (at b h') (cancelled_state (at b h') o))
+    go : (o : Option Order) → Answered v v' (Cancel c) (Cancel c) (replied x (Ok Done) (at b h) (cancelled_state (at b h) o))
+        (replied x (Ok Done) (at b h') (cancelled_state (at b h') o))
     go None = leaves v v' h h' near (Cancel c) x b b (λ a w. refl)
     go (Some o) = leaves v v' h h' near (Cancel c) x b (cancelled_board b o) (λ a w. refl)
 one-call k t v v' b h h' _ _ near (same (Tick u)) kept =
@@ -195,7 +195,7 @@ one-call k t v v' b h h' _ _ near (same Draw) kept =
     (λ n d. (above (h n) _ (kept n d).0 (near.positive n d).0, above (h' n) _ (kept n d).1 (near.positive n d).1)) in
     let q = same_step v v' h h' b (decided k b) near stocked in
     record {
-      answer = ap (λ (r : Record). Drawn r) q.told;
+      answer = ap (λ (r : Record). Ok (Drawn r)) q.told;
       after = record { board = q.board; near = record { agree = q.agree; positive = stocked } };
     }
 one-call k t v v' b h h' _ _ near (entries e r r' by w w') kept =

@@ -2,16 +2,15 @@
 -- Assumes nothing.
 use Rattle.std.specs.Prelude.{◌≡◌, ℕ, List, [], ◌∷◌, pos, None}
 use Rattle.std.specs.List.{AllZip}
+use Rattle.market.specs.Answers.{Answer}
 use Rattle.market.specs.declared.order.Side.TheVariants.{Bid, Offer}
 use Rattle.market.specs.declared.order.OrderType.TheVariants.{FaS}
 use Rattle.market.specs.declared.call.OrderEntry.{OrderEntry}
 use Rattle.market.specs.declared.call.OrderChange.{OrderChange}
 use Rattle.market.specs.declared.call.Call.{Call}
 use Rattle.market.specs.declared.call.Call.TheVariants.{Entry, Change, Tick, Draw}
-use Rattle.market.specs.declared.answer.Answer.{Answer}
-use Rattle.market.specs.declared.answer.Answer.TheVariants.{Entered, Done}
 use Rattle.rules.specs.Calls.{run, answers, opened}
-use Rattle.rules.specs.Samples.{ten_years, enter, filled, quiet, session, rolling, fbs, reopened}
+use Rattle.rules.specs.Samples.{ten_years, enter, filled, accepted, done, quiet, session, rolling, fbs, reopened}
 use Rattle.laws.specs.Hidden.{entry_with, change_with, Alike, NoneRunsOut}
 
 -- a bid of trader 1 at 100 that displays 50, and a change of it to the same
@@ -30,10 +29,10 @@ working r s =
 
 abbrev pub worked : List Answer
 worked =
-    Entered 1 ∷ quiet 0 ∷ Entered 2 ∷ session 0 100 1 ∷ filled 0 100 50 1 50 2 0 ∷ quiet 0 ∷ Done ∷ quiet 5000 ∷
-    Entered 3 ∷ filled 5000 100 50 1 50 3 0 ∷ quiet 5000 ∷ Done ∷ quiet 5000 ∷ Done ∷ rolling 10000 ∷ quiet 10000 ∷
-    Entered 4 ∷ filled 10000 100 50 1 50 4 0 ∷ quiet 10000 ∷ Done ∷ fbs 20000 ∷ reopened 28000 ∷ quiet 30000 ∷
-    Entered 5 ∷ session 30000 100 1 ∷ filled 30000 100 50 1 50 5 0 ∷ quiet 30000 ∷ []
+    accepted 1 ∷ quiet 0 ∷ accepted 2 ∷ session 0 100 1 ∷ filled 0 100 50 1 50 2 0 ∷ quiet 0 ∷ done ∷ quiet 5000 ∷
+    accepted 3 ∷ filled 5000 100 50 1 50 3 0 ∷ quiet 5000 ∷ done ∷ quiet 5000 ∷ done ∷ rolling 10000 ∷ quiet 10000 ∷
+    accepted 4 ∷ filled 10000 100 50 1 50 4 0 ∷ quiet 10000 ∷ done ∷ fbs 20000 ∷ reopened 28000 ∷ quiet 30000 ∷
+    accepted 5 ∷ session 30000 100 1 ∷ filled 30000 100 50 1 50 5 0 ∷ quiet 30000 ∷ []
 
 -- it trades twice, and then the reserve of 50 has run out
 abbrev pub used_up : ℕ → List Call
@@ -49,6 +48,6 @@ pub record Differing : Type 0 where
   pub told : answers ten_years opened (working 200 300) ≡ worked
   -- a reserve that runs out is told: the last fill leaves 0 displayed, and of a larger reserve 50
   pub out : answers ten_years opened (used_up 50) ≡
-      (Entered 1 ∷ quiet 0 ∷ Entered 2 ∷ session 0 100 1 ∷ filled 0 100 50 1 50 2 0 ∷ quiet 0 ∷ Entered 3 ∷ filled 0 100 50 1 0 3 0 ∷ [])
+      (accepted 1 ∷ quiet 0 ∷ accepted 2 ∷ session 0 100 1 ∷ filled 0 100 50 1 50 2 0 ∷ quiet 0 ∷ accepted 3 ∷ filled 0 100 50 1 0 3 0 ∷ [])
   pub more : answers ten_years opened (used_up 100) ≡
-      (Entered 1 ∷ quiet 0 ∷ Entered 2 ∷ session 0 100 1 ∷ filled 0 100 50 1 50 2 0 ∷ quiet 0 ∷ Entered 3 ∷ filled 0 100 50 1 50 3 0 ∷ [])
+      (accepted 1 ∷ quiet 0 ∷ accepted 2 ∷ session 0 100 1 ∷ filled 0 100 50 1 50 2 0 ∷ quiet 0 ∷ accepted 3 ∷ filled 0 100 50 1 50 3 0 ∷ [])

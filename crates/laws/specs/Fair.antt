@@ -1,6 +1,6 @@
 -- Fills are fair: each is of the two orders that are entitled and ahead of every other entitled one on their sides, and the tape
 -- rests only while a side has no entitled order. All words here are relations of a book's board. Assumes nothing.
-use Rattle.std.specs.Prelude.{◌≡◌, ℕ, ◌<◌, true, ◌⊎◌, List, ℤ, ◌≤ℤ◌, ◌<ℤ◌, Some, ◌≢◌}
+use Rattle.std.specs.Prelude.{◌≡◌, ℕ, ◌<◌, true, ◌⊎◌, List, ℤ, ◌≤ℤ◌, ◌<ℤ◌, Some, Ok, ◌≢◌}
 use Rattle.market.specs.Ranks.{class_number}
 use Rattle.market.specs.declared.order.Side.{Side}
 use Rattle.market.specs.declared.order.Side.TheVariants.{Bid, Offer}
@@ -17,7 +17,7 @@ use Rattle.market.specs.declared.record.Record.{Record}
 use Rattle.market.specs.declared.record.Record.TheVariants.{Quiet, Fill, Session as SessionRecord, Rolling as RollingRecord, Fbs as FbsRecord, Open as OpenRecord, Removal}
 use Rattle.market.specs.declared.call.Call.{Call}
 use Rattle.market.specs.declared.call.Call.TheVariants.{Draw}
-use Rattle.market.specs.declared.answer.Answer.TheVariants.{Drawn}
+use Rattle.market.specs.declared.answer.Accepted.TheVariants.{Drawn}
 use Rattle.rules.specs.Board.{Opening, Board, other, lookup}
 use Rattle.rules.specs.Calls.{step, run, opened}
 use Rattle.rules.specs.Members.{In}
@@ -144,4 +144,4 @@ FairAt b (Removal t n d why) = Unit {0}
 -- after every opening and all calls
 abbrev pub Fair : Type 0
 Fair =
-    (k : Opening) (cs : List Call) (r : Record) → (step k (run k opened cs) Draw).0 ≡ Drawn r → FairAt (run k opened cs).board r
+    (k : Opening) (cs : List Call) (r : Record) → (step k (run k opened cs) Draw).0 ≡ Ok (Drawn r) → FairAt (run k opened cs).board r

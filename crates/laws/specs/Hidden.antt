@@ -1,14 +1,14 @@
 -- Reserves stay hidden: while none of those that differ runs out, the others learn the same, whatever a trader holds in reserve.
 -- Assumes nothing.
-use Rattle.std.specs.Prelude.{◌≡◌, ℕ, ◌<◌, true, not, List, [], ◌∷◌, ◌++◌, length, Some, None, Option}
+use Rattle.std.specs.Prelude.{◌≡◌, ℕ, ◌<◌, true, not, List, [], ◌∷◌, ◌++◌, length, Some, None, Ok, Err, Option}
 use Rattle.std.specs.List.{AllZip}
+use Rattle.market.specs.Answers.{Answer}
 use Rattle.market.specs.declared.order.Side.TheVariants.{Bid, Offer}
 use Rattle.market.specs.declared.call.OrderEntry.{OrderEntry}
 use Rattle.market.specs.declared.call.OrderChange.{OrderChange}
 use Rattle.market.specs.declared.call.Call.{Call}
 use Rattle.market.specs.declared.call.Call.TheVariants.{Entry, Change, Cancel, Tick, Draw}
-use Rattle.market.specs.declared.answer.Answer.{Answer}
-use Rattle.market.specs.declared.answer.Answer.TheVariants.{Refused, Entered, Done, Drawn}
+use Rattle.market.specs.declared.answer.Accepted.TheVariants.{Entered, Done, Drawn}
 use Rattle.market.specs.declared.answer.Summary.{Summary}
 use Rattle.rules.specs.Base.{names, only_if, write}
 use Rattle.rules.specs.Board.{Opening, State}
@@ -53,14 +53,14 @@ pub data Alike (k : Opening) (t : ℕ) : Call → Call → Type 0 where
 
 -- what is noted as last written for each order, after a call with its answer
 abbrev pub noted : Call → Answer → (ℕ → ℕ) → ℕ → ℕ
-noted (Entry e) (Refused r) w = w
-noted (Entry e) (Entered n) w = write n e.reserve w
-noted (Entry e) Done w = w
-noted (Entry e) (Drawn r) w = w
-noted (Change c) (Refused r) w = w
-noted (Change c) (Entered n) w = w
-noted (Change c) Done w = write c.number c.reserve w
-noted (Change c) (Drawn r) w = w
+noted (Entry e) (Err r) w = w
+noted (Entry e) (Ok (Entered n)) w = write n e.reserve w
+noted (Entry e) (Ok Done) w = w
+noted (Entry e) (Ok (Drawn r)) w = w
+noted (Change c) (Err r) w = w
+noted (Change c) (Ok (Entered n)) w = w
+noted (Change c) (Ok Done) w = write c.number c.reserve w
+noted (Change c) (Ok (Drawn r)) w = w
 noted (Cancel c) a w = w
 noted (Tick t) a w = w
 noted Draw a w = w

@@ -1,3 +1,4 @@
+pub mod Answers
 pub mod Making
 pub mod Ranks
 pub mod Refusals

@@ -2,16 +2,19 @@
 use crate::record::Record;
 use crate::refusal::Refusal;
 
-/// The one outcome of a call.
+/// What an accepted call brought.
 #[derive(Clone, Copy)]
-pub enum Answer {
-    Refused(Refusal),
+pub enum Accepted {
     /// The entry was accepted under this number.
     Entered(u32),
     /// The change, cancel or tick was accepted.
     Done,
+    /// The tape was drawn from.
     Drawn(Record),
 }
+
+/// The one outcome of a call.
+pub type Answer = Result<Accepted, Refusal>;
 
 /// A side at a glance: its best price, and the displayed total of the first eight orders there.
 #[derive(Clone, Copy)]

@@ -1,5 +1,6 @@
 -- Recorded runs in short words: calls, and what is heard of each. Assumes nothing.
-use Rattle.std.specs.Prelude.{ℕ, List, [], ◌∷◌, ℤ, pos, Some, None, Option}
+use Rattle.std.specs.Prelude.{ℕ, List, [], ◌∷◌, ℤ, pos, Some, None, Ok, Err, Option}
+use Rattle.market.specs.Answers.{Answer}
 use Rattle.market.specs.Refusals.{number_of}
 use Rattle.market.specs.declared.order.Side.{Side}
 use Rattle.market.specs.declared.order.Side.TheVariants.{Bid, Offer}
@@ -10,8 +11,7 @@ use Rattle.market.specs.declared.record.Record.{Record}
 use Rattle.market.specs.declared.record.Record.TheVariants.{Quiet, Fill, Session, Rolling, Fbs, Open, Removal}
 use Rattle.market.specs.declared.call.Call.{Call}
 use Rattle.market.specs.declared.call.Call.TheVariants.{Entry, Change, Cancel}
-use Rattle.market.specs.declared.answer.Answer.{Answer}
-use Rattle.market.specs.declared.answer.Answer.TheVariants.{Refused, Entered, Done, Drawn}
+use Rattle.market.specs.declared.answer.Accepted.TheVariants.{Entered, Done, Drawn}
 use Rattle.market.specs.declared.answer.Summary.{Summary}
 use Rattle.rules.specs.Board.{Opening, State}
 use Rattle.rules.specs.Calls.{step}
@@ -47,10 +47,10 @@ record_shown (Open t) = pos 21 ∷ pos t ∷ []
 record_shown (Removal t n d c) = pos 22 ∷ pos t ∷ pos n ∷ pos d ∷ pos (cause_number c) ∷ []
 
 abbrev pub answer_shown : Answer → List ℤ
-answer_shown (Refused r) = pos 32 ∷ pos (number_of r) ∷ pos 0 ∷ []
-answer_shown (Entered n) = pos 32 ∷ pos 0 ∷ pos n ∷ []
-answer_shown Done = pos 32 ∷ pos 0 ∷ pos 0 ∷ []
-answer_shown (Drawn r) = record_shown r
+answer_shown (Err r) = pos 32 ∷ pos (number_of r) ∷ pos 0 ∷ []
+answer_shown (Ok (Entered n)) = pos 32 ∷ pos 0 ∷ pos n ∷ []
+answer_shown (Ok Done) = pos 32 ∷ pos 0 ∷ pos 0 ∷ []
+answer_shown (Ok (Drawn r)) = record_shown r
 
 abbrev pub summary_shown : Option Summary → List ℤ
 summary_shown None = []

@@ -1,5 +1,6 @@
 -- What every call does: its one answer, and the state after it; and runs of calls from an opening. Assumes nothing.
-use Rattle.std.specs.Prelude.{ℕ, ◌+◌, Bool, true, false, cond, not, ◌&&◌, ◌||◌, List, [], ◌∷◌, ◌++◌, ℤ, pos, Some, None, Option, nat_lt}
+use Rattle.std.specs.Prelude.{ℕ, ◌+◌, Bool, true, false, cond, not, ◌&&◌, ◌||◌, List, [], ◌∷◌, ◌++◌, ℤ, pos, Some, None, Ok, Err, Option, nat_lt}
+use Rattle.market.specs.Answers.{Answer}
 use Rattle.market.specs.declared.order.Side.TheVariants.{Bid}
 use Rattle.market.specs.declared.order.Order.{Order}
 use Rattle.market.specs.declared.state.Phase.TheVariants.{Open}
@@ -10,8 +11,7 @@ use Rattle.market.specs.declared.call.OrderChange.{OrderChange}
 use Rattle.market.specs.declared.call.Call.{Call}
 use Rattle.market.specs.declared.call.Call.TheVariants.{Entry, Change, Cancel, Tick, Draw}
 use Rattle.market.specs.declared.refusal.Refusal.{Refusal}
-use Rattle.market.specs.declared.answer.Answer.{Answer}
-use Rattle.market.specs.declared.answer.Answer.TheVariants.{Refused, Entered, Done, Drawn}
+use Rattle.market.specs.declared.answer.Accepted.TheVariants.{Entered, Done, Drawn}
 use Rattle.rules.specs.Base.{eq_z, write}
 use Rattle.rules.specs.Board.{Opening, Board, State, Table, empty, better, is_fbs}
 use Rattle.rules.specs.Privileges.{taken, freed, lost, adjust}
@@ -146,7 +146,7 @@ ticked_board b t =
 -- refused, and the state stays; or accepted
 abbrev pub replied : Option Refusal → Answer → State → State → Answer × State
 replied None a S S' = (a, S')
-replied (Some r) a S S' = (Refused r, S)
+replied (Some r) a S S' = (Err r, S)
 
 abbrev pub entered_state : State → OrderEntry → State
 entered_state S e = record { board = entered_board S.board e; hidden = write S.board.counters.number e.reserve S.hidden }
@@ -162,16 +162,16 @@ cancelled_state S (Some o) = record { board = cancelled_board S.board o; hidden 
 
 unfoldable pub step : Opening → State → Call → Answer × State
 step k S (Entry e) =
-    replied (entry_refusal k S.board e (is_size k e.reserve)) (Entered S.board.counters.number) S (entered_state S e)
+    replied (entry_refusal k S.board e (is_size k e.reserve)) (Ok (Entered S.board.counters.number)) S (entered_state S e)
 step k S (Change c) =
-    replied (change_refusal k S.board c (is_size k c.reserve)) Done S
+    replied (change_refusal k S.board c (is_size k c.reserve)) (Ok Done) S
     (changed_state S c (owned S.board c.trader c.number))
 step k S (Cancel c) =
-    replied (cancel_refusal S.board c.trader c.number) Done S
+    replied (cancel_refusal S.board c.trader c.number) (Ok Done) S
     (cancelled_state S (owned S.board c.trader c.number))
 step k S (Tick t) =
-    replied (tick_refusal S.board t) Done S (record { board = ticked_board S.board t; hidden = S.hidden })
-step k S Draw = (Drawn (draw k S).0, (draw k S).1)
+    replied (tick_refusal S.board t) (Ok Done) S (record { board = ticked_board S.board t; hidden = S.hidden })
+step k S Draw = (Ok (Drawn (draw k S).0), (draw k S).1)
 
 -- ---- runs
 

@@ -1,13 +1,12 @@
 -- The worked examples. Assumes nothing.
 use Rattle.std.specs.Prelude.{◌≡◌, List, [], ◌∷◌, pos, Some, None}
+use Rattle.market.specs.Answers.{Answer}
 use Rattle.market.specs.declared.order.Side.TheVariants.{Bid, Offer}
 use Rattle.market.specs.declared.call.Call.{Call}
 use Rattle.market.specs.declared.call.Call.TheVariants.{Tick, Draw}
 use Rattle.market.specs.declared.refusal.BookFault.TheVariants.{Size, Better}
-use Rattle.market.specs.declared.answer.Answer.{Answer}
-use Rattle.market.specs.declared.answer.Answer.TheVariants.{Entered, Done}
 use Rattle.rules.specs.Calls.{run, answers, opened}
-use Rattle.rules.specs.Samples.{ten_years, enter, change, refused, quiet, filled, session, rolling, fbs, after, begun, prices}
+use Rattle.rules.specs.Samples.{ten_years, enter, change, accepted, done, refused, quiet, filled, session, rolling, fbs, after, begun, prices}
 use Rattle.rules.specs.Summaries.{summary}
 use Rattle.rules.specs.SessionExamples.{SessionExamples}
 use Rattle.rules.specs.PrivilegeExamples.{PrivilegeExamples}
@@ -21,8 +20,8 @@ work_up =
 
 abbrev pub worked_up : List Answer
 worked_up =
-    Entered 1 ∷ quiet 0 ∷ Entered 2 ∷ session 0 100 1 ∷ filled 0 100 50 1 50 2 0 ∷ quiet 0 ∷ Entered 3 ∷ quiet 0 ∷ Entered 4 ∷
-    filled 0 100 50 1 50 4 0 ∷ quiet 0 ∷ Done ∷ quiet 9999 ∷ Done ∷ rolling 10000 ∷ filled 10000 100 50 1 0 3 0 ∷ quiet 10000 ∷ Done ∷
+    accepted 1 ∷ quiet 0 ∷ accepted 2 ∷ session 0 100 1 ∷ filled 0 100 50 1 50 2 0 ∷ quiet 0 ∷ accepted 3 ∷ quiet 0 ∷ accepted 4 ∷
+    filled 0 100 50 1 50 4 0 ∷ quiet 0 ∷ done ∷ quiet 9999 ∷ done ∷ rolling 10000 ∷ filled 10000 100 50 1 0 3 0 ∷ quiet 10000 ∷ done ∷
     fbs 20000 ∷ quiet 20000 ∷ []
 
 -- nine bids at 100, of which the last displays more, and one at 99
@@ -35,11 +34,11 @@ nine_bids =
 pub record Examples : Type 0 where
   pub fresh : answers ten_years opened (Draw ∷ []) ≡ (quiet 0 ∷ [])
   pub worked : answers ten_years opened work_up ≡ worked_up
-  pub unmet : answers ten_years begun (Tick 10000 ∷ Draw ∷ Draw ∷ Draw ∷ []) ≡ (Done ∷ rolling 10000 ∷ fbs 10000 ∷ quiet 10000 ∷ [])
+  pub unmet : answers ten_years begun (Tick 10000 ∷ Draw ∷ Draw ∷ Draw ∷ []) ≡ (done ∷ rolling 10000 ∷ fbs 10000 ∷ quiet 10000 ∷ [])
   pub rests : prices (run ten_years begun (enter 4 Bid 101 50 0 ∷ Draw ∷ [])) ≡ ((1, pos 100) ∷ (3, pos 100) ∷ [])
-  pub better : answers ten_years begun (enter 4 Bid 101 50 0 ∷ Draw ∷ change 4 3 101 50 ∷ []) ≡ (Entered 3 ∷ quiet 0 ∷ refused Better ∷ [])
+  pub better : answers ten_years begun (enter 4 Bid 101 50 0 ∷ Draw ∷ change 4 3 101 50 ∷ []) ≡ (accepted 3 ∷ quiet 0 ∷ refused Better ∷ [])
   pub sizes : answers ten_years opened (enter 1 Bid 100 25 0 ∷ enter 1 Bid 100 1000050 0 ∷ enter 1 Bid 100 1000000 0 ∷ []) ≡
-      (refused Size ∷ refused Size ∷ Entered 1 ∷ [])
+      (refused Size ∷ refused Size ∷ accepted 1 ∷ [])
   -- the summary counts the first eight orders at the best price
   pub absent : summary opened.board Bid ≡ None
   pub eight : summary (after nine_bids).board Bid ≡ Some (record { price = pos 100; size = 400 })

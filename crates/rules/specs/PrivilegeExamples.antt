@@ -5,10 +5,9 @@ use Rattle.market.specs.declared.order.OrderType.TheVariants.{FaKI}
 use Rattle.market.specs.declared.state.Carrier.TheVariants.{Free, Order as By, Gone}
 use Rattle.market.specs.declared.call.Call.{Call}
 use Rattle.market.specs.declared.call.Call.TheVariants.{Tick, Draw}
-use Rattle.market.specs.declared.answer.Answer.TheVariants.{Entered}
 use Rattle.rules.specs.Board.{State}
 use Rattle.rules.specs.Calls.{run, answers}
-use Rattle.rules.specs.Samples.{ten_years, enter_as, enter, change, cancel, quiet, filled, after, begun, second_session, in_rolling, privilege, priority_one, priority_two}
+use Rattle.rules.specs.Samples.{ten_years, enter_as, enter, change, cancel, accepted, quiet, filled, after, begun, second_session, in_rolling, privilege, priority_one, priority_two}
 
 -- fills 1 to 4 are of bids 1 to 4 with offer 5. Bid 1 of trader 1 restocks and is filled in part; traders 2, 3 and 6 are filled whole,
 -- and trader 6 is the Last Buyer. Trader 3 then enters bid 6, and trader 4 bid 7; the FBS Period begins
@@ -70,16 +69,16 @@ pub record PrivilegeExamples : Type 0 where
   -- the Last Buyer's, then Priority 1, then Priority 2, the newest first, then the rest
   pub classes : answers ten_years ended
       (enter 2 Bid 100 50 0 ∷ Draw ∷ enter 6 Bid 100 50 0 ∷ Draw ∷ enter 8 Offer 100 250 0 ∷ Draw ∷ Draw ∷ Draw ∷ Draw ∷ Draw ∷ Draw ∷ []) ≡
-      (Entered 8 ∷ quiet 10000 ∷ Entered 9 ∷ quiet 10000 ∷ Entered 10 ∷ filled 10000 100 50 9 0 10 200 ∷ filled 10000 100 50 1 0 10 150 ∷
+      (accepted 8 ∷ quiet 10000 ∷ accepted 9 ∷ quiet 10000 ∷ accepted 10 ∷ filled 10000 100 50 9 0 10 200 ∷ filled 10000 100 50 1 0 10 150 ∷
       filled 10000 100 50 6 0 10 100 ∷ filled 10000 100 50 8 0 10 50 ∷ filled 10000 100 50 7 0 10 0 ∷ quiet 10000 ∷ [])
   -- by the number of the fill that earned it, and not by when the order joined the queue
   pub queue : answers ten_years overtaken (enter 5 Offer 99 50 0 ∷ Draw ∷ Draw ∷ []) ≡
-      (Entered 9 ∷ filled 20000 99 50 4 0 9 0 ∷ quiet 20000 ∷ [])
+      (accepted 9 ∷ filled 20000 99 50 4 0 9 0 ∷ quiet 20000 ∷ [])
   -- a fill in the FBS Period moves nobody: trader 6 stays the Last Buyer
   pub unmoved : answers ten_years ended
       (enter 8 Offer 100 50 0 ∷ Draw ∷ Draw ∷ enter 1 Bid 100 50 0 ∷ Draw ∷ enter 6 Bid 100 50 0 ∷ Draw ∷ enter 8 Offer 100 50 0 ∷
       Draw ∷ Draw ∷ []) ≡
-      (Entered 8 ∷ filled 10000 100 50 1 0 8 0 ∷ quiet 10000 ∷ Entered 9 ∷ quiet 10000 ∷ Entered 10 ∷ quiet 10000 ∷ Entered 11 ∷
+      (accepted 8 ∷ filled 10000 100 50 1 0 8 0 ∷ quiet 10000 ∷ accepted 9 ∷ quiet 10000 ∷ accepted 10 ∷ quiet 10000 ∷ accepted 11 ∷
       filled 10000 100 50 10 0 11 0 ∷ quiet 10000 ∷ [])
   -- ---- carried
 

@@ -1,5 +1,6 @@
 -- What the examples are written with. Assumes nothing.
-use Rattle.std.specs.Prelude.{ℕ, List, [], ◌∷◌, ℤ, pos, Some, None, Option, refl}
+use Rattle.std.specs.Prelude.{ℕ, List, [], ◌∷◌, ℤ, pos, Some, None, Ok, Err, Option, refl}
+use Rattle.market.specs.Answers.{Answer}
 use Rattle.market.specs.declared.order.Side.{Side}
 use Rattle.market.specs.declared.order.Side.TheVariants.{Bid, Offer}
 use Rattle.market.specs.declared.order.OrderType.{OrderType}
@@ -13,8 +14,7 @@ use Rattle.market.specs.declared.call.Call.{Call}
 use Rattle.market.specs.declared.call.Call.TheVariants.{Entry, Change, Cancel, Tick, Draw}
 use Rattle.market.specs.declared.refusal.BookFault.{BookFault}
 use Rattle.market.specs.declared.refusal.Refusal.TheVariants.{Book}
-use Rattle.market.specs.declared.answer.Answer.{Answer}
-use Rattle.market.specs.declared.answer.Answer.TheVariants.{Refused, Drawn}
+use Rattle.market.specs.declared.answer.Accepted.TheVariants.{Entered, Done, Drawn}
 use Rattle.rules.specs.Base.{each}
 use Rattle.rules.specs.Board.{Opening, State, lookup}
 use Rattle.rules.specs.Calls.{run, opened}
@@ -60,33 +60,40 @@ cancel t n = Cancel (record { trader = t; number = n })
 
 -- ---- answers
 
+-- an entry accepted under this number
+abbrev pub accepted : ℕ → Answer
+accepted n = Ok (Entered n)
+
+abbrev pub done : Answer
+done = Ok Done
+
 abbrev pub refused : BookFault → Answer
-refused f = Refused (Book f)
+refused f = Err (Book f)
 
 abbrev pub quiet : ℕ → Answer
-quiet t = Drawn (Quiet t)
+quiet t = Ok (Drawn (Quiet t))
 
 -- time, price, size, the bid and what it displays after, the offer and what it displays after
 abbrev pub filled : ℕ → ℕ → ℕ → ℕ → ℕ → ℕ → ℕ → Answer
 filled t p size bid left offer left' =
-    Drawn (Fill t (record { price = pos p; size = size; bid = bid; bidleft = left; offer = offer; offerleft = left' }))
+    Ok (Drawn (Fill t (record { price = pos p; size = size; bid = bid; bidleft = left; offer = offer; offerleft = left' })))
 
 -- time, price, number of the passive order
 abbrev pub session : ℕ → ℕ → ℕ → Answer
-session t p n = Drawn (Session t (pos p) n)
+session t p n = Ok (Drawn (Session t (pos p) n))
 
 abbrev pub rolling : ℕ → Answer
-rolling t = Drawn (Rolling t)
+rolling t = Ok (Drawn (Rolling t))
 
 abbrev pub fbs : ℕ → Answer
-fbs t = Drawn (Fbs t)
+fbs t = Ok (Drawn (Fbs t))
 
 abbrev pub reopened : ℕ → Answer
-reopened t = Drawn (Open t)
+reopened t = Ok (Drawn (Open t))
 
 -- time, number, displayed, cause
 abbrev pub removed : ℕ → ℕ → ℕ → Cause → Answer
-removed t n d why = Drawn (Removal t n d why)
+removed t n d why = Ok (Drawn (Removal t n d why))
 
 -- ---- states
 

@@ -7,11 +7,12 @@ use book::book::Book;
 use heap_row::heap_row::HeapRow;
 use intake::hold;
 use line::lines::Line;
-use market::answer::Answer;
+use market::answer::{Accepted, Answer};
 use market::call::Call;
 use market::rank::{BidRank, Class, EndTime, OfferRank, Rank, Standing};
 use market::settings::Settings;
 use ordered_row::ordered_row::OrderedRow;
+use std::io;
 use std::io::{BufReader, Write};
 use wire_in::read::read;
 use wire_out::output::Output;
@@ -34,33 +35,24 @@ fn answer_to<B: Line<BidRank> + Drop, O: Line<OfferRank> + Drop, E: Line<EndTime
     book: &mut Book<B, O, E>,
     call: Call,
 ) -> Answer {
-    let calls = [call];
-    let mut room = [Answer::Done];
-    let _ = book.play(&calls, &mut room);
+    let mut room = [Ok(Accepted::Done)];
+    let _ = book.play(&[call], &mut room);
     room[0]
 }
 
-/// Writes the answer to a message into `out`; how many bytes it has, and whether the venue goes on.
-fn reply_to<B: Line<BidRank> + Drop, O: Line<OfferRank> + Drop, E: Line<EndTime> + Drop>(
-    book: &mut Book<B, O, E>,
-    message: &[u8],
-    out: &mut [u8],
-) -> (usize, bool) {
-    let (read, _) = read(message);
-    let (answer, goes_on) = match read {
-        Ok(message) => (answer_to(book, message.call()), true),
-        Err(refusal) => (Answer::Refused(refusal), false),
-    };
-    match write(&Output::of(answer), out) {
-        Ok(size) => (size, goes_on),
-        Err(_) => (0, false),
+/// Tells an answer, in one write. Every message has room.
+fn tell(rt: &HostRuntime, answer: Answer) -> io::Result<()> {
+    let mut out = [0u8; 64];
+    match write(&Output::from(answer), &mut out) {
+        Ok(size) => rt.stdout().write_all(&out[0..size]),
+        Err(_) => Ok(()),
     }
 }
 
 fn serve<B: Line<BidRank> + Drop, O: Line<OfferRank> + Drop, E: Line<EndTime> + Drop>(
     rt: &HostRuntime,
     book: &mut Book<B, O, E>,
-) -> anyhow::Result<()> {
+) -> io::Result<()> {
     let mut input = BufReader::new(rt.alloc(), rt.stdin())?;
     let mut held = Vec::new(rt.alloc());
     for _ in 0..u64::MAX {
@@ -68,13 +60,9 @@ fn serve<B: Line<BidRank> + Drop, O: Line<OfferRank> + Drop, E: Line<EndTime> + 
         if held.is_empty() {
             break;
         }
-        let mut out = [0u8; 64];
-        let (size, goes_on) = reply_to(book, held.as_slice(), &mut out);
-        if size <= 64 {
-            rt.stdout().write_all(&out[0..size])?;
-        }
-        if !goes_on {
-            break;
+        match read(held.as_slice()).0 {
+            Ok(message) => tell(rt, answer_to(book, message.call()))?,
+            Err(refusal) => return tell(rt, Err(refusal)),
         }
     }
     Ok(())
@@ -94,7 +82,7 @@ fn run(rt: &HostRuntime) -> anyhow::Result<()> {
         OrderedRow::new(&mut offers),
         HeapRow::new(&mut ends),
     );
-    serve(rt, &mut book)
+    Ok(serve(rt, &mut book)?)
 }
 
 fn main(rt: HostRuntime) -> anyhow::Result<()> {

@@ -2,7 +2,7 @@
 ghost use Rattle.std.specs.Prelude.{◌≡◌};
 ghost use Rattle.wire_out.specs.Outputs.{output_of};
 
-use market::answer::Answer;
+use market::answer::{Accepted, Answer};
 use market::record::Record;
 
 /// What a call is answered by: a draw by the tape's next record, and any other call by a reply.
@@ -13,22 +13,22 @@ pub enum Output {
     Reply { refusal: u8, order: u32 },
 }
 
-impl Output {
+impl From<Answer> for Output {
+    ghost from_gives = { λ answer output. output ≡ output_of answer };
+
     /// The message that tells an answer: a record, or a reply with the refusal's number, with the new order's number, or with neither.
-    pub fn of(answer: Answer) -> Output
-        ensures { result ≡ output_of answer }
-    {
+    fn from(answer: Answer) -> Output {
         match answer {
-            Answer::Refused(refusal) => Output::Reply {
+            Err(refusal) => Output::Reply {
                 refusal: refusal.number(),
                 order: 0,
             },
-            Answer::Entered(order) => Output::Reply { refusal: 0, order },
-            Answer::Done => Output::Reply {
+            Ok(Accepted::Entered(order)) => Output::Reply { refusal: 0, order },
+            Ok(Accepted::Done) => Output::Reply {
                 refusal: 0,
                 order: 0,
             },
-            Answer::Drawn(drawn) => Output::Record(drawn),
+            Ok(Accepted::Drawn(drawn)) => Output::Record(drawn),
         }
     }
 }

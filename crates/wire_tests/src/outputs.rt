@@ -1,5 +1,5 @@
 //! Records and replies.
-use market::answer::Answer;
+use market::answer::Accepted;
 use market::record::{Cause, Record};
 use market::refusal::{BookFault, Refusal};
 use std::process::Abort;
@@ -129,7 +129,7 @@ fn removals_and_replies(rt: HostRuntime) -> Result<(), Fail> {
 
 #[test]
 fn answers(rt: HostRuntime) {
-    let told = Output::of(Answer::Refused(Refusal::Book(BookFault::Size)));
+    let told = Output::from(Err(Refusal::Book(BookFault::Size)));
     assert!(rt;
         matches!(
             told,
@@ -141,7 +141,7 @@ fn answers(rt: HostRuntime) {
     );
     assert!(rt;
         matches!(
-            Output::of(Answer::Entered(7)),
+            Output::from(Ok(Accepted::Entered(7))),
             Output::Reply {
                 refusal: 0,
                 order: 7
@@ -150,19 +150,19 @@ fn answers(rt: HostRuntime) {
     );
     assert!(rt;
         matches!(
-            Output::of(Answer::Done),
+            Output::from(Ok(Accepted::Done)),
             Output::Reply {
                 refusal: 0,
                 order: 0
             }
         )
     );
-    let told = Output::of(Answer::Drawn(Record::Removal {
+    let told = Output::from(Ok(Accepted::Drawn(Record::Removal {
         time: 1,
         number: 2,
         displayed: 3,
         cause: Cause::End,
-    }));
+    })));
     let mut buf = [0u8; 21];
     assert!(rt; matches!(write(&told, &mut buf), Ok(21)));
     assert!(rt; buf[20] == 3);
