@@ -8,11 +8,9 @@ use Rattle.market.specs.declared.rank.EndTime.{EndTime}
 use Rattle.market.specs.declared.call.Call.{Call}
 use Rattle.market.specs.declared.refusal.Refusal.{Refusal}
 use Rattle.market.specs.declared.answer.Accepted.TheVariants.{Entered, Done}
-use Rattle.rules.specs.Board.{Opening, State}
 use Rattle.rules.specs.Calls.{step}
-use Rattle.invariants.specs.Sound.{Sound}
 use Rattle.memory.specs.declared.memory.Memory.{Memory}
-use Rattle.memory.specs.Shown.{Shows}
+use Rattle.memory.specs.Shown.{Shows, Whenever}
 
 -- an entry's answer has the order's number
 abbrev pub entry_answer : Result ℕ Refusal → Answer
@@ -28,5 +26,4 @@ module _ {B O E : Type 0} (bl : Ghosts B BidRank) (ol : Ghosts O OfferRank) (el 
   -- the book shows the state that the rules define after the call, and answers what they define
   abbrev pub Obeys : Memory B O E → Memory B O E → Call → Answer → Type 0
   Obeys m m' c a =
-      (k : Opening) (S : State) → Sound k S → Shows bl ol el m k S →
-      Shows bl ol el m' k (step k S c).1 × (a ≡ (step k S c).0)
+      Whenever bl ol el m (λ k S. Shows bl ol el m' k (step k S c).1 × (a ≡ (step k S c).0))

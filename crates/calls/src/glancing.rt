@@ -1,9 +1,7 @@
 //! A side at a glance.
 ghost use Rattle.std.specs.Prelude.{◌≡◌};
-ghost use Rattle.rules.specs.Board.{Opening, State};
 ghost use Rattle.rules.specs.Summaries.{summary as summary_of};
-ghost use Rattle.invariants.specs.Sound.{Sound};
-ghost use Rattle.memory.specs.Shown.{Shows};
+ghost use Rattle.memory.specs.Shown.{Whenever};
 
 use line::lines::Line;
 use market::answer::Summary;
@@ -17,7 +15,7 @@ pub fn summary<B: Line<BidRank> + Drop, O: Line<OfferRank> + Drop, E: Line<EndTi
     memory: &Memory<B, O, E>,
     side: Side,
 ) -> Option<Summary>
-    ensures { (k : Opening) (S : State) → Sound k S → Shows B.Line O.Line E.Line memory.now k S → result ≡ summary_of S.board side }
+    ensures { Whenever B.Line O.Line E.Line memory.now (λ k S. result ≡ summary_of S.board side) }
 {
     match side {
         Side::Bid => summarize(&memory.board, &memory.bids),

@@ -2,11 +2,10 @@
 ghost use Rattle.std.specs.Prelude.{◌≡◌, ◌&&◌, nat_le};
 ghost use Rattle.line.specs.declared.lines.LineFault.TheVariants.{Full};
 ghost use Rattle.rules.specs.Base.{is_some, count};
-ghost use Rattle.rules.specs.Board.{Opening, State, on};
+ghost use Rattle.rules.specs.Board.{on};
 ghost use Rattle.rules.specs.Refusing.{room_for, ending};
-ghost use Rattle.invariants.specs.Sound.{Sound};
 ghost use Rattle.admission.specs.Checks.{refused_if};
-ghost use Rattle.memory.specs.Shown.{Shows};
+ghost use Rattle.memory.specs.Shown.{Whenever};
 
 use line::lines::{Line, LineFault};
 use market::order::Side;
@@ -20,7 +19,7 @@ pub(crate) fn check_side_line<
     O: Line<OfferRank> + Drop,
     E: Line<EndTime> + Drop,
 >(memory: &Memory<B, O, E>, side: Side) -> Result<(), LineFault>
-    ensures { (k : Opening) (S : State) → Sound k S → Shows B.Line O.Line E.Line memory.now k S → result ≡ refused_if (nat_le (room_for k side) (count (on side) S.board.orders)) Full }
+    ensures { Whenever B.Line O.Line E.Line memory.now (λ k S. result ≡ refused_if (nat_le (room_for k side) (count (on side) S.board.orders)) Full) }
 {
     match side {
         Side::Bid => check_room(&memory.bids),
@@ -34,7 +33,7 @@ pub(crate) fn check_end_line<
     O: Line<OfferRank> + Drop,
     E: Line<EndTime> + Drop,
 >(memory: &Memory<B, O, E>, end: Option<u64>) -> Result<(), LineFault>
-    ensures { (k : Opening) (S : State) → Sound k S → Shows B.Line O.Line E.Line memory.now k S → result ≡ refused_if (is_some end && nat_le k.ends (count ending S.board.orders)) Full }
+    ensures { Whenever B.Line O.Line E.Line memory.now (λ k S. result ≡ refused_if (is_some end && nat_le k.ends (count ending S.board.orders)) Full) }
 {
     match end {
         Some(_) => check_room(&memory.ends),

@@ -16,14 +16,13 @@ use Rattle.rules.specs.Draws.{Step, begins, turns, incoming_of, phase_end, decid
 use Rattle.rules.specs.Calls.{step}
 use Rattle.rules.proofs.Tests.{none≢some}
 use Rattle.rules.proofs.Reasons.{Why, why}
-use Rattle.invariants.specs.Sound.{Sound}
 use Rattle.memory.specs.declared.memory.Memory.{Memory}
-use Rattle.memory.specs.Shown.{Shows}
+use Rattle.memory.specs.Shown.{Shows, Whenever}
 use Rattle.drawing.specs.Does.{after, Does, Draws}
 
 module _ {B O E : Type 0} (bl : Ghosts B BidRank) (ol : Ghosts O OfferRank) (el : Ghosts E EndTime) where
   pub drawn : (m m' : Memory B O E) (d : Step) (r : Record) →
-      ((k : Opening) (S : State) → Sound k S → Shows bl ol el m k S → d ≡ decided k S.board) → Does bl ol el m m' d r → Draws bl ol el m m' r
+      Whenever bl ol el m (λ k S. d ≡ decided k S.board) → Does bl ol el m m' d r → Draws bl ol el m m' r
   unfolding step draw
   drawn m m' d r due does k S sound w =
       let e = due k S sound w in

@@ -8,13 +8,12 @@ use Rattle.market.specs.declared.rank.EndTime.{EndTime}
 use Rattle.market.specs.declared.record.Record.{Record}
 use Rattle.market.specs.declared.call.Call.TheVariants.{Draw}
 use Rattle.market.specs.declared.answer.Accepted.TheVariants.{Drawn}
-use Rattle.rules.specs.Board.{Opening, State}
+use Rattle.rules.specs.Board.{State}
 use Rattle.rules.specs.Draws.{Step, decided, record_of, board_after, hidden_after, removed_board}
 use Rattle.rules.specs.Calls.{step}
 use Rattle.rules.specs.Members.{In}
-use Rattle.invariants.specs.Sound.{Sound}
 use Rattle.memory.specs.declared.memory.Memory.{Memory}
-use Rattle.memory.specs.Shown.{Shows}
+use Rattle.memory.specs.Shown.{Shows, Whenever}
 
 -- the state after a step
 abbrev pub after : State → Step → State
@@ -24,17 +23,15 @@ module _ {B O E : Type 0} (bl : Ghosts B BidRank) (ol : Ghosts O OfferRank) (el 
   -- where this is the step that the rules decide on, the book shows the state after it, and tells the record that they define
   abbrev pub Does : Memory B O E → Memory B O E → Step → Record → Type 0
   Does m m' d r =
-      (k : Opening) (S : State) → Sound k S → Shows bl ol el m k S → decided k S.board ≡ d →
-      Shows bl ol el m' k (after S d) × (r ≡ record_of S.hidden S.board d)
+      Whenever bl ol el m (λ k S. decided k S.board ≡ d → Shows bl ol el m' k (after S d) × (r ≡ record_of S.hidden S.board d))
 
   -- where the order is live, the book shows the state without it, at that time
   abbrev pub Leaves : Memory B O E → Memory B O E → Order → ℕ → Type 0
   Leaves m m' o t =
-      (k : Opening) (S : State) → Sound k S → Shows bl ol el m k S → In o S.board.orders →
-      Shows bl ol el m' k (record { board = removed_board S.board t o; hidden = S.hidden })
+      Whenever bl ol el m
+      (λ k S. In o S.board.orders → Shows bl ol el m' k (record { board = removed_board S.board t o; hidden = S.hidden }))
 
   -- the book shows the state after a draw of the rules, and tells the record that they answer
   abbrev pub Draws : Memory B O E → Memory B O E → Record → Type 0
   Draws m m' r =
-      (k : Opening) (S : State) → Sound k S → Shows bl ol el m k S →
-      Shows bl ol el m' k (step k S Draw).1 × (Ok (Drawn r) ≡ (step k S Draw).0)
+      Whenever bl ol el m (λ k S. Shows bl ol el m' k (step k S Draw).1 × (Ok (Drawn r) ≡ (step k S Draw).0))

@@ -1,16 +1,17 @@
 //! Which step applies: the first of five.
 ghost use Rattle.std.specs.Prelude.{◌≡◌, Some};
-ghost use Rattle.rules.specs.Board.{Opening, State, meet};
-ghost use Rattle.rules.specs.Draws.{decided, incoming_of, passive_for, opening, pairing, earlier, coming};
+ghost use Rattle.rules.specs.Base.{or_else};
+ghost use Rattle.rules.specs.Board.{meet};
+ghost use Rattle.rules.specs.Draws.{rests, decided, incoming_of, passive_for, opening, pairing, removing, earlier, coming};
 ghost use Rattle.table.specs.Items.{items};
-ghost use Rattle.invariants.specs.Sound.{Sound};
-ghost use Rattle.memory.specs.Shown.{Shows};
-ghost use Rattle.drawing.specs.Due.{meant, meant_of};
+ghost use Rattle.board.specs.Memory.{board_of};
+ghost use Rattle.memory.specs.Shown.{Whenever};
+ghost use Rattle.drawing.specs.Due.{meant_of};
 
 use board::board::Board;
 use board::orders::numbered;
 use draws::phases::phase_end;
-use draws::removals::removal_due;
+use draws::removals;
 use line::lines::Line;
 use market::order::{Order, Side};
 use market::rank::{BidRank, EndTime, OfferRank};
@@ -34,7 +35,6 @@ pub enum Due {
     PhaseEnd { time: u64 },
     /// An order's end time comes.
     Expiry { order: Order, time: u64 },
-    Nothing,
 }
 
 /// The incoming order, if it is live.
@@ -50,7 +50,7 @@ fn passive_for<B: Line<BidRank> + Drop, O: Line<OfferRank> + Drop, E: Line<EndTi
     memory: &Memory<B, O, E>,
     trigger: &Order,
 ) -> Option<Order>
-    ensures { (k : Opening) (S : State) → Sound k S → Shows B.Line O.Line E.Line memory.now k S → result ≡ passive_for S.board (Some trigger.now) }
+    ensures { Whenever B.Line O.Line E.Line memory.now (λ k S. result ≡ passive_for S.board (Some trigger.now)) }
 {
     match trigger.side {
         Side::Bid => first_order(&memory.board, &memory.offers),
@@ -63,7 +63,7 @@ fn session_due<B: Line<BidRank> + Drop, O: Line<OfferRank> + Drop, E: Line<EndTi
     memory: &Memory<B, O, E>,
     meets: bool,
 ) -> Option<Due>
-    ensures { (k : Opening) (S : State) → Sound k S → Shows B.Line O.Line E.Line memory.now k S → meets ≡ meet S.board.orders → meant_of result ≡ opening S.board }
+    ensures { Whenever B.Line O.Line E.Line memory.now (λ k S. meets ≡ meet S.board.orders → meant_of result ≡ opening S.board) }
 {
     let Phase::Open = memory.board.phase else {
         return None;
@@ -81,7 +81,7 @@ fn pair_due<B: Line<BidRank> + Drop, O: Line<OfferRank> + Drop, E: Line<EndTime>
     memory: &Memory<B, O, E>,
     meets: bool,
 ) -> Option<Due>
-    ensures { (k : Opening) (S : State) → Sound k S → Shows B.Line O.Line E.Line memory.now k S → meets ≡ meet S.board.orders → meant_of result ≡ pairing S.board }
+    ensures { Whenever B.Line O.Line E.Line memory.now (λ k S. meets ≡ meet S.board.orders → meant_of result ≡ pairing S.board) }
 {
     let bid = first_entitled(&memory.board, &memory.bids, meets)?;
     let offer = first_entitled(&memory.board, &memory.offers, meets)?;
@@ -104,7 +104,7 @@ fn earlier(wished: u64, turn: Option<u64>, ending: Option<(Order, u64)>) -> Opti
 fn moment_due<B: Line<BidRank> + Drop, O: Line<OfferRank> + Drop, E: Line<EndTime> + Drop>(
     memory: &Memory<B, O, E>,
 ) -> Option<Due>
-    ensures { (k : Opening) (S : State) → Sound k S → Shows B.Line O.Line E.Line memory.now k S → meant_of result ≡ coming k S.board }
+    ensures { Whenever B.Line O.Line E.Line memory.now (λ k S. meant_of result ≡ coming k S.board) }
 {
     let wished = memory.board.clock.wished;
     let turn = phase_end(&memory.board, &memory.settings);
@@ -112,24 +112,23 @@ fn moment_due<B: Line<BidRank> + Drop, O: Line<OfferRank> + Drop, E: Line<EndTim
     earlier(wished, turn, ending)
 }
 
-/// The first of the five steps that applies.
+/// The order that must go because of its type.
+fn removal_due(board: &Board) -> Option<Due>
+    ensures { meant_of result ≡ removing (board_of board.now) }
+{
+    let (order, cause) = removals::removal_due(board)?;
+    Some(Due::Removal { order, cause })
+}
+
+/// The first of the steps that applies; none if nothing is left to do.
 pub fn next_step<B: Line<BidRank> + Drop, O: Line<OfferRank> + Drop, E: Line<EndTime> + Drop>(
     memory: &Memory<B, O, E>,
-) -> Due
-    ensures { (k : Opening) (S : State) → Sound k S → Shows B.Line O.Line E.Line memory.now k S → meant result ≡ decided k S.board }
+) -> Option<Due>
+    ensures { Whenever B.Line O.Line E.Line memory.now (λ k S. or_else (meant_of result) rests ≡ decided k S.board) }
 {
     let meets = prices_meet(&memory.bids, &memory.offers);
-    if let Some(due) = session_due(memory, meets) {
-        return due;
-    }
-    if let Some(due) = pair_due(memory, meets) {
-        return due;
-    }
-    if let Some((order, cause)) = removal_due(&memory.board) {
-        return Due::Removal { order, cause };
-    }
-    match moment_due(memory) {
-        Some(due) => due,
-        None => Due::Nothing,
-    }
+    session_due(memory, meets)
+        .or_else(|| pair_due(memory, meets))
+        .or_else(|| removal_due(&memory.board))
+        .or_else(|| moment_due(memory))
 }

@@ -21,18 +21,20 @@ pub fn draw<B: Line<BidRank> + Drop, O: Line<OfferRank> + Drop, E: Line<EndTime>
 {
     match (next_step(memory), memory.board.phase) {
         // Open moves to Timed.
-        (Due::Session { trigger, passive }, Phase::Open) => begin(memory, &trigger, &passive),
+        (Some(Due::Session { trigger, passive }), Phase::Open) => begin(memory, &trigger, &passive),
         // Timed moves to Rolling, Rolling to FBS, and FBS to Open.
-        (Due::PhaseEnd { time }, Phase::Timed | Phase::Rolling | Phase::Fbs) => turn(memory, time),
+        (Some(Due::PhaseEnd { time }), Phase::Timed | Phase::Rolling | Phase::Fbs) => {
+            turn(memory, time)
+        }
         // In every phase, which stays as it is.
-        (Due::Pair { bid, offer }, _) => trade(memory, &bid, &offer),
-        (Due::Removal { order, cause }, _) => remove(memory, &order, cause),
-        (Due::Expiry { order, time }, _) => expire(memory, &order, time),
-        (Due::Nothing, _) => rest(memory),
+        (Some(Due::Pair { bid, offer }), _) => trade(memory, &bid, &offer),
+        (Some(Due::Removal { order, cause }), _) => remove(memory, &order, cause),
+        (Some(Due::Expiry { order, time }), _) => expire(memory, &order, time),
+        (None, _) => rest(memory),
         // These do not occur: a session begins in Open alone, and Open does not end by itself.
-        (Due::Session { .. }, Phase::Timed) => rest(memory),
-        (Due::Session { .. }, Phase::Rolling) => rest(memory),
-        (Due::Session { .. }, Phase::Fbs) => rest(memory),
-        (Due::PhaseEnd { .. }, Phase::Open) => rest(memory),
+        (Some(Due::Session { .. }), Phase::Timed) => rest(memory),
+        (Some(Due::Session { .. }), Phase::Rolling) => rest(memory),
+        (Some(Due::Session { .. }), Phase::Fbs) => rest(memory),
+        (Some(Due::PhaseEnd { .. }), Phase::Open) => rest(memory),
     }
 }

@@ -15,6 +15,7 @@ use Rattle.board.specs.EndTimes.{end_time}
 use Rattle.queues.specs.Lists.{Lists}
 use Rattle.queues.specs.Changes.{Enlists, Relists, Refills}
 use Rattle.queues.specs.Entries.{bid_entry, offer_entry}
+use Rattle.invariants.specs.Sound.{Sound}
 use Rattle.memory.specs.declared.memory.Memory.{Memory}
 use Rattle.memory.specs.declared.entries.Entries.{Entries}
 
@@ -35,6 +36,10 @@ module _ {B O E : Type 0} (bl : Ghosts B BidRank) (ol : Ghosts O OfferRank) (el 
     pub board : board_of m.board ≡ S.board
     pub reserves : Reserved S.hidden S.board.orders (items m.reserves)
     pub queued : Queued m S.board.orders S.board
+
+  -- this is so of the opening and the sound state that the book is in, whichever they are
+  abbrev pub Whenever : Memory B O E → (Opening → State → Type 0) → Type 0
+  Whenever m P = (k : Opening) (S : State) → Sound k S → Shows m k S → P k S
 
   -- but for its lines the book is as it was
   pub record Same (m m' : Memory B O E) : Type 0 where
