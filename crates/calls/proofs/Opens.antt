@@ -21,7 +21,6 @@ use Rattle.calls.specs.Openings.{opening_with}
 
 -- an emptied line, with the room that it had
 pub record Emptied {L X : Type 0} (g : Ghosts L X) (l l' : L) : Type 0 where
-  pub sound : g.sound l'
   pub entries : g.entries l' ≡ []
   pub room : g.room l' ≡ g.room l
 
@@ -30,7 +29,7 @@ lists-none {L} {X} ahead g l l' entry e =
     let none : length (g.entries l') ≡ 0 = ap (λ (xs : List X). length xs) e.entries in
     let fits : length (g.entries l') ≤ g.room l' = omega arith in
     let nothing : Shown ahead [] [] entry = record { ordered = refl; each = λ o x i. absurd i; only = λ x i. absurd i } in
-    record { sound = e.sound; fits = fits; shows = subst (λ (xs : List X). Shown ahead xs [] entry) (sym e.entries) nothing }
+    record { fits = fits; shows = subst (λ (xs : List X). Shown ahead xs [] entry) (sym e.entries) nothing }
 
 module _ {B O E : Type 0} (bl : Ghosts B BidRank) (ol : Ghosts O OfferRank) (el : Ghosts E EndTime) where
   opening-is : (m : Memory B O E) (s : Settings) (x : B) (y : O) (z : E) → m.settings ≡ s → bl.room m.bids ≡ bl.room x →

@@ -62,7 +62,7 @@ module _ {X : Type 0} {ahead : X → X → Bool} (o : Order ahead) where
     less-last d = sym (ap (sorted ahead) (sym (take_all (n + 1) xs last)) ∙ sorted_more xs n d l)
 
   -- v, the last, in the place of the entry at `at`, which is not the last
-  pub less : (xs : List X) (n m : ℕ) → n < length xs → length xs ≤ n + 1 → m ≡ n → (at : ℕ) (v d : X) → at < n → ((d : X) → get_or xs n d ≡ v) → with_entry ahead (get_or xs at d) (sorted ahead (set (take m xs) at v)) ≡ sorted ahead xs
-  less xs n m l last e at v d w is =
+  pub less : (xs : List X) (n : ℕ) → n < length xs → length xs ≤ n + 1 → (at : ℕ) (v d : X) → at < n → ((d : X) → get_or xs n d ≡ v) → with_entry ahead (get_or xs at d) (sorted ahead (set (take n xs) at v)) ≡ sorted ahead xs
+  less xs n l last at v d w is =
       let long = length-take-le n xs (omega arith) in
-      ap (λ k. with_entry ahead (get_or xs at d) (sorted ahead (set (take k xs) at v))) e ∙ ap (λ y. with_entry ahead y (sorted ahead (set (take n xs) at v))) (sym (get_or-take n xs at d w)) ∙ sorted-set o (take n xs) at v d (omega arith) ∙ ap (λ y. with_entry ahead y (sorted ahead (take n xs))) (sym (is d)) ∙ less-last xs n l last d
+      ap (λ y. with_entry ahead y (sorted ahead (set (take n xs) at v))) (sym (get_or-take n xs at d w)) ∙ sorted-set o (take n xs) at v d (omega arith) ∙ ap (λ y. with_entry ahead y (sorted ahead (take n xs))) (sym (is d)) ∙ less-last xs n l last d

@@ -7,7 +7,7 @@ use Rattle.line.specs.Order.{Order}
 use Rattle.line.specs.Held.{holds, with_entry, without, behind, Ordered, first_of}
 use Rattle.line.proofs.Lists.{not_back, length-with, holds-none}
 use Rattle.line.proofs.Chains.{Chain, all-with, chain-from-ordered, ordered-from-chain}
-use Rattle.heap_row.specs.Heap.{sorted, nearer}
+use Rattle.heap_row.specs.Heap.{sorted}
 
 module _ {X : Type 0} {ahead : X → X → Bool} (o : Order ahead) where
   -- ---- two entries may be put in either order
@@ -96,20 +96,6 @@ module _ {X : Type 0} {ahead : X → X → Bool} (o : Order ahead) where
       by ih (inl p) = rw p
       by ih (inr p) = rw p (ap (λ t. not (ahead y e || ahead e y) || t) ih ∙ swap_or (not (ahead y e || ahead e y)) (not (ahead x e || ahead e x)) (holds ahead e s))
 
-  -- ---- what is behind
-
-  pub behind-with : (e x : X) (s : List X) → behind ahead e (with_entry ahead x s) ≡ nearer ahead e x (behind ahead e s)
-  behind-with e x [] = refl
-  behind-with e x (y ∷ s) = by (behind-with e x s) (cases_Bool (ahead x y)) (cases_Bool (ahead e x)) (cases_Bool (ahead e y))
-    where
-      by : behind ahead e (with_entry ahead x s) ≡ nearer ahead e x (behind ahead e s) → (ahead x y ≡ true) ⊎ (ahead x y ≡ false) → (ahead e x ≡ true) ⊎ (ahead e x ≡ false) → (ahead e y ≡ true) ⊎ (ahead e y ≡ false) → behind ahead e (with_entry ahead x (y ∷ s)) ≡ nearer ahead e x (behind ahead e (y ∷ s))
-      by ih (inl p) (inl q) (inl r) = simp (p, q, r)
-      by ih (inl p) (inl q) (inr r) = absurd (both_ways (ahead e y) r (o.transitive e x y q p))
-      by ih (inl p) (inr q) r = simp (p, q)
-      by ih (inr p) (inl q) (inl r) = simp (p, q, r)
-      by ih (inr p) (inr q) (inl r) = simp (p, q, r)
-      by ih (inr p) q (inr r) = simp (p, r) ih
-
   -- ---- the first
 
   pub first-with : (x : X) (s : List X) → All (λ y. ahead y x ≡ false) s → Some x ≡ first_of (with_entry ahead x s)
@@ -182,7 +168,3 @@ module _ {X : Type 0} {ahead : X → X → Bool} (o : Order ahead) where
 
   pub same-is : (x e : X) → not (ahead x e || ahead e x) ≡ true → x ≡ e
   same-is x e h = let p = or_parts (ahead x e) (ahead e x) (not-true (ahead x e || ahead e x) h) in o.total x e p.0 p.1
-
-pub length-sorted : {X : Type 0} (ahead : X → X → Bool) (xs : List X) → length (sorted ahead xs) ≡ length xs
-length-sorted ahead [] = refl
-length-sorted ahead (x ∷ xs) = omega (arith, length-with ahead x (sorted ahead xs), length-sorted ahead xs)

@@ -23,14 +23,9 @@ module _ {X : Type 0} (ahead : X → X → Bool) where
   Found e xs None = holds ahead e (sorted xs) ≡ false
   Found e xs (Some i) = Stands e xs i
 
-  -- x or what was found before, whichever is ahead
-  abbrev pub closer : X → Option X → Option X
-  closer x None = Some x
-  closer x (Some y) = cond (ahead x y) (Some x) (Some y)
-
-  -- the first behind e of x and of what was found before
-  abbrev pub nearer : X → X → Option X → Option X
-  nearer e x found = cond (ahead e x) (closer x found) found
+  -- the one of two that is ahead
+  abbrev pub earlier : X → X → X
+  earlier x y = cond (ahead y x) y x
 
   -- no entry is ahead of its parent
   abbrev pub Heap : List X → Type 0

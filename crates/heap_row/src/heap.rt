@@ -1,28 +1,34 @@
-//! A slice as a heap: none of its entries is ahead of its parent, and the parent of the entry at
+//! A row as a heap: none of its entries is ahead of its parent, and the parent of the entry at
 //! place `k` stands at `(k - 1) / 2`.
-ghost use Rattle.std.specs.Prelude.{◌≡◌, ◌-◌, ◌/◌, ◌<◌, not, ◌||◌, length, take, slice_index_or, slice_set};
-ghost use Rattle.line.specs.Held.{with_entry, behind};
-ghost use Rattle.heap_row.specs.Heap.{Heap, Rising, Sinking, Lowest, Found, sorted, nearer};
+ghost use Rattle.std.specs.Prelude.{◌≡◌, ◌/◌, ◌<◌, not, ◌||◌, false, is_ok, if◌then◌else◌, length, slice_index_or, slice_set};
+ghost use Rattle.std.specs.List.{filter, reduce};
+ghost use Rattle.line.specs.Held.{with_entry};
+ghost use Rattle.line.specs.Rows.{held, room, room_answer};
+ghost use Rattle.heap_row.specs.Heap.{Heap, Rising, Sinking, Lowest, Found, sorted, earlier};
 
 use line::entry::Entry;
+use line::lines::LineFault;
+use line::row::Row;
 
 /// Writes `mover` at `at`, or as far above it as it belongs.
-pub(crate) fn sift_up<T: Entry>(heap: &mut [T], at: usize, mover: T)
-    requires { at < length heap.old }
-    ensures heap { Rising T.Entry.ahead (slice_set heap.old at mover) at → Heap T.Entry.ahead heap.new }
-    ensures sorted { sorted T.Entry.ahead heap.new ≡ sorted T.Entry.ahead (slice_set heap.old at mover) }
+// By hand, as std's heap works on a `Vec` of its own and not on a row that is lent.
+fn sift_up<T: Entry>(row: &mut Row<T>, at: usize, mover: T)
+    requires { at < length (held row.old) }
+    ensures heap { Rising T.Entry.ahead (slice_set (held row.old) at mover) at → Heap T.Entry.ahead (held row.new) }
+    ensures sorted { sorted T.Entry.ahead (held row.new) ≡ sorted T.Entry.ahead (slice_set (held row.old) at mover) }
+    ensures room { room row.new ≡ room row.old }
 {
     let mut i = at;
     while i > 0 {
         let up = (i - 1) / 2;
-        let above = heap[up];
+        let above = row.held()[up];
         if !mover.is_ahead(&above) {
             break;
         }
-        heap[i] = above;
+        row.set(i, above);
         i = up;
     }
-    heap[i] = mover;
+    row.set(i, mover);
 }
 
 /// The place of the child of `i` that goes first.
@@ -40,81 +46,73 @@ fn lowest<T: Entry>(heap: &[T], i: usize) -> usize
 }
 
 /// Writes `mover` at `at`, or as far below it as it belongs.
-fn sift_down<T: Entry>(heap: &mut [T], at: usize, mover: T)
-    requires { at < length heap.old }
-    ensures heap { Sinking T.Entry.ahead (slice_set heap.old at mover) at → Heap T.Entry.ahead heap.new }
-    ensures sorted { sorted T.Entry.ahead heap.new ≡ sorted T.Entry.ahead (slice_set heap.old at mover) }
+fn sift_down<T: Entry>(row: &mut Row<T>, at: usize, mover: T)
+    requires { at < length (held row.old) }
+    ensures heap { Sinking T.Entry.ahead (slice_set (held row.old) at mover) at → Heap T.Entry.ahead (held row.new) }
+    ensures sorted { sorted T.Entry.ahead (held row.new) ≡ sorted T.Entry.ahead (slice_set (held row.old) at mover) }
+    ensures room { room row.new ≡ room row.old }
 {
     let mut i = at;
-    while i < heap.len() / 2 {
-        let low = lowest(heap, i);
-        let below = heap[low];
+    while i < row.held().len() / 2 {
+        let low = lowest(row.held(), i);
+        let below = row.held()[low];
         if !below.is_ahead(&mover) {
             break;
         }
-        heap[i] = below;
+        row.set(i, below);
         i = low;
     }
-    heap[i] = mover;
+    row.set(i, mover);
 }
 
-/// Takes the entry at `at` out. What is left stands in all places but the last.
-pub(crate) fn remove<T: Entry>(heap: &mut [T], at: usize)
-    requires { at < length heap.old }
-    ensures heap { Heap T.Entry.ahead heap.old → Heap T.Entry.ahead (take (length heap.old - 1) heap.new) }
-    ensures less { (d : T) → with_entry T.Entry.ahead (slice_index_or heap.old at d) (sorted T.Entry.ahead (take (length heap.old - 1) heap.new)) ≡ sorted T.Entry.ahead heap.old }
+/// Adds `entry`. Refused if the row is full.
+pub(crate) fn push<T: Entry>(row: &mut Row<T>, entry: T) -> Result<(), LineFault>
+    ensures answer { result ≡ room_answer (room row.old) (length (held row.old)) }
+    ensures heap { Heap T.Entry.ahead (held row.old) → Heap T.Entry.ahead (held row.new) }
+    ensures sorted { sorted T.Entry.ahead (held row.new) ≡ (if is_ok result then with_entry T.Entry.ahead entry (sorted T.Entry.ahead (held row.old)) else sorted T.Entry.ahead (held row.old)) }
+    ensures room { room row.new ≡ room row.old }
+    ensures kept { is_ok result ≡ false → row.new ≡ row.old }
 {
-    let n = heap.len() - 1;
-    if at == n {
+    let end = row.held().len();
+    row.insert(end, entry)?;
+    sift_up(row, end, entry);
+    Ok(())
+}
+
+/// Takes the entry at `at` out.
+pub(crate) fn remove<T: Entry>(row: &mut Row<T>, at: usize)
+    requires { at < length (held row.old) }
+    ensures heap { Heap T.Entry.ahead (held row.old) → Heap T.Entry.ahead (held row.new) }
+    ensures less { (d : T) → with_entry T.Entry.ahead (slice_index_or (held row.old) at d) (sorted T.Entry.ahead (held row.new)) ≡ sorted T.Entry.ahead (held row.old) }
+    ensures room { room row.new ≡ room row.old }
+{
+    let end = row.held().len() - 1;
+    let last = row.held()[end];
+    row.remove(end);
+    if at == end {
         return;
     }
-    let last = heap[n];
-    let rest = &mut heap[0..n];
-    if at > 0 && last.is_ahead(&rest[(at - 1) / 2]) {
-        sift_up(rest, at, last);
+    if at > 0 && last.is_ahead(&row.held()[(at - 1) / 2]) {
+        sift_up(row, at, last);
     } else {
-        sift_down(rest, at, last);
+        sift_down(row, at, last);
     }
-}
-
-fn same<T: Entry>(a: &T, b: &T) -> bool
-    ensures { result ≡ not (T.Entry.ahead a.now b.now || T.Entry.ahead b.now a.now) }
-{
-    !(a.is_ahead(b) || b.is_ahead(a))
 }
 
 /// Where `sought` stands.
 pub(crate) fn find<T: Entry>(held: &[T], sought: &T) -> Option<usize>
     ensures { Found T.Entry.ahead sought.now held.now result }
 {
-    for (i, x) in held.iter().enumerate() {
-        if same(x, sought) {
-            return Some(i);
-        }
-    }
-    None
-}
-
-/// The first behind `after` of `x` and `found`.
-fn nearest<T: Entry>(after: &T, x: T, found: Option<T>) -> Option<T>
-    ensures { result ≡ nearer T.Entry.ahead after.now x found }
-{
-    if !after.is_ahead(&x) {
-        return found;
-    }
-    match found {
-        Some(y) if !x.is_ahead(&y) => Some(y),
-        _ => Some(x),
-    }
+    held.iter()
+        .position(|entry| !entry.is_ahead(sought) && !sought.is_ahead(entry))
 }
 
 /// The first of the entries behind `after`.
 pub(crate) fn first_behind<T: Entry>(held: &[T], after: &T) -> Option<T>
-    ensures { result ≡ behind T.Entry.ahead after.now (sorted T.Entry.ahead held.now) }
+    ensures { result ≡ reduce (earlier T.Entry.ahead) (filter (T.Entry.ahead after.now) held.now) }
 {
-    let mut found = None;
-    for x in held {
-        found = nearest(after, *x, found);
-    }
-    found
+    held.iter()
+        .copied()
+        .filter(|entry| after.is_ahead(entry))
+        .reduce(|first, entry| if entry.is_ahead(&first) { entry } else { first })
 }

@@ -2,4 +2,3 @@
 #![tactic(auto)]
 
 pub mod ordered_row;
-mod shifts;

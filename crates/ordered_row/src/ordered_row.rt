@@ -1,140 +1,100 @@
 //! A line in a row that the host lends, kept in order.
-ghost use Rattle.std.specs.Prelude.{◌≡◌, ◌≤◌, [], length, drop};
-ghost use Rattle.line.specs.Held.{Ordered, Seat, behind, first_of};
-ghost use Rattle.ordered_row.specs.Found.{Within, Found};
-ghost use Rattle.ordered_row.specs.Row.{entries_of, room_of};
+ghost use Rattle.line.specs.Held.{Ordered};
+ghost use Rattle.line.specs.Rows.{held};
 
-use crate::shifts;
 use line::entry::Entry;
 use line::lines::{Line, LineFault};
+use line::row::Row;
 
-/// The entries are the first `len` of the row, each ahead of the next. The row's length is the room.
+/// Each entry of the row is ahead of the next.
 #[derive(Drop)]
 pub struct OrderedRow<'a, T: Entry> {
-    row: &'a mut [T],
-    len: usize,
+    row: Row<'a, T>,
+    ghost ordered: { Ordered T.Entry.ahead (held row) },
 }
 
 impl<'a, T: Entry> OrderedRow<'a, T> {
-    /// An empty line with as much room as `row` has.
-    pub fn new(row: &'a mut [T]) -> OrderedRow<'a, T>
-        ensures sound { Ordered T.Entry.ahead (entries_of result) }
+    ghost use Rattle.std.specs.Prelude.{◌≡◌, [], length};
+    ghost use Rattle.line.specs.Held.{Seat};
+    ghost use Rattle.ordered_row.specs.Found.{Found};
+    ghost use Rattle.ordered_row.specs.Row.{entries_of, room_of};
+
+    /// An empty line with as much room as `places` has.
+    pub fn new(places: &'a mut [T]) -> OrderedRow<'a, T>
         ensures entries { entries_of result ≡ [] }
-        ensures room { room_of result ≡ length row.old }
+        ensures room { room_of result ≡ length places.old }
     {
-        OrderedRow { row, len: 0 }
+        let row = Row::new(places);
+        OrderedRow { row }
     }
 
-    /// The entries, in order: the first `len` of the row, or the whole row if it is shorter.
-    fn held(&self) -> &[T]
-        ensures entries { result.now ≡ entries_of self.now }
-        ensures fits { length result.now ≤ room_of self.now }
+    /// How many entries are ahead of `entry`.
+    fn seat(&self, entry: &T) -> usize
+        ensures { Seat T.Entry.ahead entry.now (entries_of self.now) result }
     {
-        &self.row[0..self.len.min(self.row.len())]
+        self.row
+            .held()
+            .partition_point(|other| other.is_ahead(entry))
     }
-}
 
-/// How many of the entries are ahead of `sought`.
-fn seat<T: Entry>(held: &[T], sought: &T) -> usize
-    ensures within { result ≤ length held.now }
-    ensures seat { Ordered T.Entry.ahead held.now → Seat T.Entry.ahead sought.now held.now result }
-{
-    let mut low = 0;
-    let mut high = held.len();
-    while low < high {
-        let mid = low + (high - low) / 2;
-        if held[mid].is_ahead(sought) {
-            low = mid + 1;
-        } else {
-            high = mid;
+    /// Where `entry` stands, or else where it belongs.
+    fn find(&self, entry: &T) -> Result<usize, usize>
+        ensures { Found T.Entry.ahead entry.now (entries_of self.now) result }
+    {
+        let at = self.seat(entry);
+        match self.row.held().get(at) {
+            Some(other) if !entry.is_ahead(other) => Ok(at),
+            _ => Err(at),
         }
-    }
-    low
-}
-
-/// Where `sought` stands among the entries, or else where it belongs.
-fn find<T: Entry>(held: &[T], sought: &T) -> Result<usize, usize>
-    ensures within { Within (length held.now) result }
-    ensures found { Ordered T.Entry.ahead held.now → Found T.Entry.ahead sought.now held.now result }
-{
-    let at = seat(held, sought);
-    if at < held.len() && !sought.is_ahead(&held[at]) {
-        Ok(at)
-    } else {
-        Err(at)
-    }
-}
-
-/// How many of the entries are not behind `after`.
-fn past<T: Entry>(held: &[T], after: &T) -> usize
-    ensures { Ordered T.Entry.ahead held.now → behind T.Entry.ahead after.now held.now ≡ first_of (drop result held.now) }
-{
-    match find(held, after) {
-        Ok(at) => at + 1,
-        Err(at) => at,
     }
 }
 
 impl<'a, T: Entry> Line<T> for OrderedRow<'a, T> {
-    ghost sound = { λ s. Ordered T.Entry.ahead (entries_of s) };
+    ghost use Rattle.line.specs.Rows.{held-fits};
+    ghost use Rattle.ordered_row.specs.Row.{entries_of, room_of};
 
     ghost room = { room_of };
 
     ghost entries = { entries_of };
 
+    ghost ordered = { λ line. line.ordered };
+
+    ghost fits = { λ line. held-fits line.row };
+
     fn clear(&mut self) {
-        self.len = 0;
+        self.row.clear();
     }
 
     fn put(&mut self, entry: T) -> Result<(), LineFault> {
-        let held = self.held();
-        let len = held.len();
-        let at = match find(held, &entry) {
-            Ok(_) => return Err(LineFault::Held),
-            Err(at) => at,
-        };
-        if len == self.row.len() {
-            return Err(LineFault::Full);
+        match self.find(&entry) {
+            Ok(_) => Err(LineFault::Held),
+            Err(at) => self.row.insert(at, entry),
         }
-        shifts::open_at(self.row, len, at, entry);
-        self.len = len + 1;
-        Ok(())
     }
 
     fn take(&mut self, entry: T) -> Result<(), LineFault> {
-        let held = self.held();
-        let len = held.len();
-        let at = match find(held, &entry) {
-            Ok(at) => at,
-            Err(_) => return Err(LineFault::NotHeld),
+        let Ok(at) = self.find(&entry) else {
+            return Err(LineFault::NotHeld);
         };
-        shifts::close_at(self.row, len, at);
-        self.len = len - 1;
+        self.row.remove(at);
         Ok(())
     }
 
     fn first(&self) -> Option<T> {
-        match self.held() {
-            [] => None,
-            [first, ..] => Some(*first),
-        }
+        self.row.held().first().copied()
     }
 
     fn next(&self, after: T) -> Option<T> {
-        let held = self.held();
-        let at = past(held, &after);
-        if at < held.len() {
-            Some(held[at])
-        } else {
-            None
-        }
+        let held = self.row.held();
+        let at = held.partition_point(|entry| !after.is_ahead(entry));
+        held.get(at).copied()
     }
 
     fn count(&self) -> usize {
-        self.held().len()
+        self.row.held().len()
     }
 
     fn room(&self) -> usize {
-        self.row.len()
+        self.row.room()
     }
 }

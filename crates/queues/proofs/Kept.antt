@@ -16,10 +16,9 @@ use Rattle.queues.proofs.Shown.{Named, Fitting, Covers, having, push-joins, show
 use Rattle.queues.proofs.Sized.{sized, count-alike}
 
 module _ {L X : Type 0} {ahead : X → X → Bool} (g : Ghosts L X) where
-  from-fitting : (l : L) (os : List Order) (e : Order → Option X) (room : ℕ) (ys : List X) → g.sound l → g.room l ≡ room → g.entries l ≡ ys → Fitting ahead room ys os e → Lists ahead g l os e
-  from-fitting l os e room ys snd rooms is w =
+  from-fitting : (l : L) (os : List Order) (e : Order → Option X) (room : ℕ) (ys : List X) → g.room l ≡ room → g.entries l ≡ ys → Fitting ahead room ys os e → Lists ahead g l os e
+  from-fitting l os e room ys rooms is w =
       record {
-        sound = snd;
         fits = omega (arith, rooms, ap length is, w.0);
         shows = subst (λ (zs : List X). Shows ahead zs os e) (sym is) w.1;
       }
@@ -29,7 +28,7 @@ module _ {L X : Type 0} {ahead : X → X → Bool} (g : Ghosts L X) where
 
   -- a line that is left alone lists other orders: with the same entries in any places
   pub lists-pass : (l : L) (os os' : List Order) (e e' : Order → Option X) → Covers os e os' e' → Covers os' e' os e → Lists ahead g l os e → Lists ahead g l os' e'
-  lists-pass l os os' e e' f b w = record { sound = w.sound; fits = w.fits; shows = shows-pass os os' e e' f b w.shows }
+  lists-pass l os os' e e' f b w = record { fits = w.fits; shows = shows-pass os os' e e' f b w.shows }
 
   -- with the same entries, place by place
   pub lists-alike : (l : L) (os os' : List Order) (e e' : Order → Option X) → each e os ≡ each e' os' → Lists ahead g l os e → Lists ahead g l os' e'
@@ -40,9 +39,9 @@ module _ {L X : Type 0} {ahead : X → X → Bool} (g : Ghosts L X) where
   lists-same l os e e' q = lists-pass l os os e e' (λ o x i h. (o, i, q o i ∙ h)) (λ o x i h. (o, i, sym (q o i) ∙ h))
 
   -- a line that holds nothing lists no orders
-  pub lists-none : (l : L) (e : Order → Option X) → g.sound l → g.entries l ≡ [] → Lists ahead g l [] e
-  lists-none l e snd is =
-      from-fitting l [] e (g.room l) [] snd refl is (omega arith, record { ordered = refl; each = λ o x i q. i; only = λ x i. absurd i })
+  pub lists-none : (l : L) (e : Order → Option X) → g.entries l ≡ [] → Lists ahead g l [] e
+  lists-none l e is =
+      from-fitting l [] e (g.room l) [] refl is (omega arith, record { ordered = refl; each = λ o x i q. i; only = λ x i. absurd i })
 
 -- ---- a line filled by one order after another
 
@@ -73,50 +72,46 @@ module _ {L X : Type 0} {ahead : X → X → Bool} (t : TotalOrder ahead) (numbe
   pub lists-room : (l : L) (b : Board) (k m : ℕ) (os : List Order) → Ascends k m os → Lists ahead g l os (entry b) → count mine os ≤ g.room l
   lists-room l b k m os a w = omega (arith, lists_length l b k m os a w, w.fits)
 
-  module _ (l l' : L) (rooms : g.room l' ≡ g.room l) (snd : g.sound l → g.sound l') where
-    pub enlists : (new : Option X) → (g.sound l → g.entries l' ≡ added ahead (g.room l) new (g.entries l)) → Enlists ahead mine entry g l l' new
+  module _ (l l' : L) (rooms : g.room l' ≡ g.room l) where
+    pub enlists : (new : Option X) → g.entries l' ≡ added ahead (g.room l) new (g.entries l) → Enlists ahead mine entry g l l' new
     enlists new is =
         record {
           room = rooms;
-          sound = snd;
-          entries = is;
+            entries = is;
           lists = λ b os o m a le q free w.
               let size = lists_length l b 1 m os a w in
-              from-fitting g l' (os ++ (o ∷ [])) (entry b) (g.room l) (added ahead (g.room l) new (g.entries l)) (snd w.sound) rooms (is w.sound)
+              from-fitting g l' (os ++ (o ∷ [])) (entry b) (g.room l) (added ahead (g.room l) new (g.entries l)) rooms is
               (fitting-added t number (g.room l) (entry b) (named b) os (os ++ (o ∷ [])) o (push-joins os o) (λ p i r. omega (arith, (ascends-in 1 m os p a i).1)) (g.entries l) new q
               (λ h. omega (arith, size, free (sym (has b o) ∙ ap is_some q ∙ h))) (to-fitting g l os (entry b) w));
         }
 
-    pub unlists : (old : Option X) → (g.sound l → g.entries l' ≡ taken ahead old (g.entries l)) → Unlists ahead mine entry g l l' old
+    pub unlists : (old : Option X) → g.entries l' ≡ taken ahead old (g.entries l) → Unlists ahead mine entry g l l' old
     unlists old is =
         record {
           room = rooms;
-          sound = snd;
-          entries = is;
+            entries = is;
           lists = λ b os o m a i q w.
-              from-fitting g l' (replace o.number None os) (entry b) (g.room l) (taken ahead old (g.entries l)) (snd w.sound) rooms (is w.sound)
+              from-fitting g l' (replace o.number None os) (entry b) (g.room l) (taken ahead old (g.entries l)) rooms is
               (fitting-taken t number (g.room l) (entry b) (named b) 1 m os a o i (g.entries l) old q (to-fitting g l os (entry b) w));
         }
 
-    pub relists : (old new : Option X) → (g.sound l → g.entries l' ≡ added ahead (g.room l) new (taken ahead old (g.entries l))) → Relists ahead mine entry g l l' old new
+    pub relists : (old new : Option X) → g.entries l' ≡ added ahead (g.room l) new (taken ahead old (g.entries l)) → Relists ahead mine entry g l l' old new
     relists old new is =
         record {
           room = rooms;
-          sound = snd;
-          entries = is;
+            entries = is;
           lists = λ b b' os o r m a i keeps q q' some same w.
-              from-fitting g l' (replace o.number r os) (entry b') (g.room l) (added ahead (g.room l) new (taken ahead old (g.entries l))) (snd w.sound) rooms (is w.sound)
+              from-fitting g l' (replace o.number r os) (entry b') (g.room l) (added ahead (g.room l) new (taken ahead old (g.entries l))) rooms is
               (fitting-replaced t number (g.room l) (entry b) (entry b') (named b) (named b') 1 m os a o i same (g.entries l) r keeps old new q q' some (to-fitting g l os (entry b) w));
         }
 
-  pub refills : (l l' : L) (b : Board) → g.room l' ≡ g.room l → g.sound l' → g.entries l' ≡ filled ahead (g.room l) (each (entry b) b.orders) [] → Refills ahead mine entry g l l' b
-  refills l l' b rooms snd is =
+  pub refills : (l l' : L) (b : Board) → g.room l' ≡ g.room l → g.entries l' ≡ filled ahead (g.room l) (each (entry b) b.orders) [] → Refills ahead mine entry g l l' b
+  refills l l' b rooms is =
       record {
         room = rooms;
-        sound = snd;
         entries = is;
         lists = λ m a h.
-            from-fitting g l' b.orders (entry b) (g.room l) (filled ahead (g.room l) (each (entry b) b.orders) []) snd rooms is
+            from-fitting g l' b.orders (entry b) (g.room l) (filled ahead (g.room l) (each (entry b) b.orders) []) rooms is
             (fitting-filled t number (g.room l) (entry b) (named b) [] b.orders 1 m [] (λ p i. absurd i) a
             (omega (arith, h, count-alike (having (entry b)) mine (has b) b.orders))
             (omega arith, record { ordered = refl; each = λ o x i q. i; only = λ x i. absurd i }));

@@ -44,24 +44,21 @@ module _ {L X : Type 0} (ahead : X → X → Bool) (mine : Order → Bool) (entr
   -- the line lists one order more, with a number above all others, if there is room for its entry
   pub record Enlists (new : Option X) : Type 0 where
     pub room : g.room l' ≡ g.room l
-    pub sound : g.sound l → g.sound l'
-    pub entries : g.sound l → g.entries l' ≡ added ahead (g.room l) new (g.entries l)
+    pub entries : g.entries l' ≡ added ahead (g.room l) new (g.entries l)
     pub lists : (b : Board) (os : List Order) (o : Order) (m : ℕ) → Ascends 1 m os → m ≤ o.number → entry b o ≡ new →
         (mine o ≡ true → count mine os < g.room l) → Lists ahead g l os (entry b) → Lists ahead g l' (os ++ (o ∷ [])) (entry b)
 
   -- it lists one order fewer
   pub record Unlists (old : Option X) : Type 0 where
     pub room : g.room l' ≡ g.room l
-    pub sound : g.sound l → g.sound l'
-    pub entries : g.sound l → g.entries l' ≡ taken ahead old (g.entries l)
+    pub entries : g.entries l' ≡ taken ahead old (g.entries l)
     pub lists : (b : Board) (os : List Order) (o : Order) (m : ℕ) → Ascends 1 m os → In o os → entry b o ≡ old →
         Lists ahead g l os (entry b) → Lists ahead g l' (replace o.number None os) (entry b)
 
   -- it lists r, if anything, in place of o; the entries of the others are the same on both boards
   pub record Relists (old new : Option X) : Type 0 where
     pub room : g.room l' ≡ g.room l
-    pub sound : g.sound l → g.sound l'
-    pub entries : g.sound l → g.entries l' ≡ added ahead (g.room l) new (taken ahead old (g.entries l))
+    pub entries : g.entries l' ≡ added ahead (g.room l) new (taken ahead old (g.entries l))
     pub lists : (b b' : Board) (os : List Order) (o : Order) (r : Option Order) (m : ℕ) → Ascends 1 m os → In o os → Keeps o.number r →
         entry b o ≡ old → entry_of (entry b') r ≡ new → (is_some new ≡ true → is_some old ≡ true) →
         ((p : Order) → In p os → ¬ (p.number ≡ o.number) → entry b' p ≡ entry b p) →
@@ -70,6 +67,5 @@ module _ {L X : Type 0} (ahead : X → X → Bool) (mine : Order → Bool) (entr
   -- whatever it held, it lists all orders of the board, if there is room for their entries
   pub record Refills (b : Board) : Type 0 where
     pub room : g.room l' ≡ g.room l
-    pub sound : g.sound l'
     pub entries : g.entries l' ≡ filled ahead (g.room l) (each (entry b) b.orders) []
     pub lists : (m : ℕ) → Ascends 1 m b.orders → count mine b.orders ≤ g.room l → Lists ahead g l' b.orders (entry b)

@@ -13,9 +13,8 @@ pub record Shows {X : Type 0} (ahead : X → X → Bool) (xs : List X) (os : Lis
   pub each : (o : Order) (x : X) → In o os → entry o ≡ Some x → In x xs
   pub only : (x : X) → In x xs → (o : Order) × In o os × (entry o ≡ Some x)
 
--- the line is sound, holds no more than its room, and what it holds are the orders' entries
+-- the line holds no more than its room, and what it holds are the orders' entries
 pub record Lists {L X : Type 0} (ahead : X → X → Bool) (g : Ghosts L X) (l : L) (os : List Order) (entry : Order → Option X) : Type 0 where
-  pub sound : g.sound l
   pub fits : length (g.entries l) ≤ g.room l
   pub shows : Shows ahead (g.entries l) os entry
 

@@ -57,7 +57,7 @@ fn first_allowed<T: Ranked, L: Line<T>>(
     entitlement: &Entitlement,
     line: &L,
 ) -> Option<Order>
-    ensures { L.Line.sound line.now → result ≡ walk (choice (allowed entitlement.now) T.OfOrder.number orders.now) (L.Line.entries line.now) }
+    ensures { result ≡ walk (choice (allowed entitlement.now) T.OfOrder.number orders.now) (L.Line.entries line.now) }
 {
     let mut at = line.first();
     for _n in 0..line.count() {

@@ -38,7 +38,7 @@ fn displayed<T: OfOrder>(orders: &[Order], entry: &T) -> u32
 
 /// The displayed total of the first orders along the line that are at the price.
 fn displayed_at<T: Ranked, L: Line<T>>(orders: &[Order], line: &L, price: i32) -> u64
-    ensures { L.Line.sound line.now → result ≡ shown_at T.Ranked.price (displayed_by T.OfOrder.number orders.now) 8 price (L.Line.entries line.now) }
+    ensures { result ≡ shown_at T.Ranked.price (displayed_by T.OfOrder.number orders.now) 8 price (L.Line.entries line.now) }
 {
     let mut total = 0;
     let mut at = line.first();

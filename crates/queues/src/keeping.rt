@@ -15,8 +15,7 @@ use line::lines::{Line, LineFault};
 
 /// Puts an entry in, if there is one.
 fn put_entry<T: Entry, L: Line<T>>(line: &mut L, new: Option<T>)
-    ensures sound { L.Line.sound line.old → L.Line.sound line.new }
-    ensures entries { L.Line.sound line.old → L.Line.entries line.new ≡ added T.Entry.ahead (L.Line.room line.old) new (L.Line.entries line.old) }
+    ensures entries { L.Line.entries line.new ≡ added T.Entry.ahead (L.Line.room line.old) new (L.Line.entries line.old) }
     ensures room { L.Line.room line.new ≡ L.Line.room line.old }
 {
     if let Some(entry) = new {
@@ -26,8 +25,7 @@ fn put_entry<T: Entry, L: Line<T>>(line: &mut L, new: Option<T>)
 
 /// Takes an entry out, if there is one.
 fn take_entry<T: Entry, L: Line<T>>(line: &mut L, old: Option<T>)
-    ensures sound { L.Line.sound line.old → L.Line.sound line.new }
-    ensures entries { L.Line.sound line.old → L.Line.entries line.new ≡ taken T.Entry.ahead old (L.Line.entries line.old) }
+    ensures entries { L.Line.entries line.new ≡ taken T.Entry.ahead old (L.Line.entries line.old) }
     ensures room { L.Line.room line.new ≡ L.Line.room line.old }
 {
     if let Some(entry) = old {
@@ -81,7 +79,7 @@ fn room_left(count: usize, room: usize) -> Result<(), LineFault>
 
 /// Refused if the line holds as many entries as its room.
 pub fn check_room<T: Listed, L: Line<T>>(line: &L) -> Result<(), LineFault>
-    ensures answer { L.Line.sound line.now → result ≡ room_answer (L.Line.room line.now) (length (L.Line.entries line.now)) }
+    ensures answer { result ≡ room_answer (L.Line.room line.now) (length (L.Line.entries line.now)) }
     ensures listed { (b : Rules) (os : List Order) (m : ℕ) → Ascends 1 m os → Lists T.Entry.ahead L.Line line.now os (T.Listed.listing b) → result ≡ room_answer (L.Line.room line.now) (count T.Listed.mine os) }
 {
     room_left(line.count(), line.room())

@@ -6,6 +6,6 @@ pub returns : goal.returns
 returns g c =
     opened-shown g.B.Line g.O.Line g.E.Line _ c.args.settings c.args.bids c.args.offers c.args.ends refl c.new.ensures
     c.new-2.ensures
-    (record { sound = c.clear.ensures.sound; entries = c.clear.ensures.entries; room = c.clear.ensures.room })
-    (record { sound = c.clear-2.ensures.sound; entries = c.clear-2.ensures.entries; room = c.clear-2.ensures.room })
-    (record { sound = c.clear-3.ensures.sound; entries = c.clear-3.ensures.entries; room = c.clear-3.ensures.room })
+    (record { entries = c.clear.ensures.entries; room = c.clear.ensures.room })
+    (record { entries = c.clear-2.ensures.entries; room = c.clear-2.ensures.room })
+    (record { entries = c.clear-3.ensures.entries; room = c.clear-3.ensures.room })

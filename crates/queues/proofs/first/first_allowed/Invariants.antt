@@ -9,4 +9,4 @@ abbrev pub invariant-loop-n : goal.invariant-loop-n
 invariant-loop-n g l =
     let xs = g.L.Line.entries l.line in
     let f = choice (allowed l.entitlement) g.T.OfOrder.number l.orders in
-    g.L.Line.sound l.line → (l.at ≡ first_of (drop l._n xs)) × (walk f xs ≡ walk f (drop l._n xs))
+    (l.at ≡ first_of (drop l._n xs)) × (walk f xs ≡ walk f (drop l._n xs))

@@ -9,4 +9,4 @@ invariant-loop-n g l =
     let xs = g.L.Line.entries l.line in
     let shown = shown_at g.T.Ranked.price (displayed_by g.T.OfOrder.number l.orders) in
     (l.total ≤ 4294967295 * l._n) ×
-    (g.L.Line.sound l.line → (l.at ≡ first_of (drop l._n xs)) × (l.total + shown (8 - l._n) l.price (drop l._n xs) ≡ shown 8 l.price xs))
+    (l.at ≡ first_of (drop l._n xs)) × (l.total + shown (8 - l._n) l.price (drop l._n xs) ≡ shown 8 l.price xs)

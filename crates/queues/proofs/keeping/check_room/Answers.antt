@@ -10,8 +10,8 @@ returns g c =
     let l = c.args.line.now in
     let r = c.room_left.ensures ∙ ap (λ (n : ℕ). room_answer n c.count.result) c.room.ensures in
     record {
-      answer = λ w. r ∙ ap (room_answer (g.L.Line.room l)) (c.count.ensures.value w);
+      answer = r ∙ ap (room_answer (g.L.Line.room l)) c.count.ensures;
       listed = λ b os m a w.
-          r ∙ ap (room_answer (g.L.Line.room l)) (c.count.ensures.value w.sound ∙
+          r ∙ ap (room_answer (g.L.Line.room l)) (c.count.ensures ∙
           lists_length t g.T.OfOrder.number g.T.Listed.mine g.T.Listed.listing g.met.T.Listed.has g.met.T.Listed.named g.L.Line l b 1 m os a w);
     }

@@ -10,5 +10,4 @@ invariant-loop-order g l =
     let fill = filled g.T.Entry.ahead (g.L.Line.room l.initial.line) in
     let e = g.T.Listed.listing (board_of l.board) in
     (g.L.Line.room l.line ≡ g.L.Line.room l.initial.line) ×
-    g.L.Line.sound l.line ×
     (fill (each e (drop l.order-index l.orders)) (g.L.Line.entries l.line) ≡ fill (each e l.orders) [])

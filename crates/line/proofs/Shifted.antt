@@ -1,6 +1,6 @@
 -- A place that is made in the front of a row, or closed.
-use Rattle.std.proofs.Common.{◌≡◌, ℕ, ◌+◌, ◌-◌, ◌<◌, ◌≤◌, ◌≢◌, ◌⊎◌, List, length, get_or, take, set, sym, ◌∙◌, inl, inr, ⊎_elim, arith}
-use Rattle.std.proofs.lemmas.List.{length-take-le, length-set, get_or-take, get_or-set_same, get_or-set_other, same_lists}
+use Rattle.std.proofs.Common.{◌≡◌, ℕ, ◌+◌, ◌-◌, ◌<◌, ◌≤◌, ◌≢◌, ◌⊎◌, min, List, ◌∷◌, ◌++◌, length, get_or, take, drop, set, sym, ap, ◌∙◌, inl, inr, ⊎_elim, arith}
+use Rattle.std.proofs.lemmas.List.{length-take-le, length-set, get_or-take, get_or-set_same, get_or-set_other, same_lists, take_min, drop_min}
 use Rattle.std.proofs.lemmas.List.Edits.{length-insert, get_or-insert_below, get_or-insert_at, get_or-insert_above, length-remove, get_or-remove_below, get_or-remove_above}
 use Rattle.std.proofs.lemmas.Bool.{cases_lt, cases_order}
 use Rattle.std.specs.List.{insert, remove}
@@ -48,3 +48,8 @@ module _ {X : Type 0} (old new : List X) (len at : ℕ) (fits : len ≤ length o
         let m : length (take (len + 1) (set new at e)) ≡ len + 1 = length-take-le (len + 1) (set new at e) (omega arith) in
         same_lists _ _ (omega (arith, length-insert (take len old) at e inside))
         (λ k d l. let a : k < len + 1 = omega arith in rw get_or-take (opened-at k d a (cases_order k at)))
+
+-- past the end is at the end
+pub insert_min : {X : Type 0} (xs : List X) (at m : ℕ) (e : X) → m ≡ min at (length xs) → insert xs m e ≡ insert xs at e
+insert_min xs at m e h =
+    ap (λ k. insert xs k e) h ∙ ap (λ t. t ++ e ∷ drop (min at (length xs)) xs) (take_min at xs) ∙ ap (λ t. take at xs ++ e ∷ t) (drop_min at xs)

@@ -1,8 +1,0 @@
-use Rattle.std.proofs.Common.{◌≡◌, ℕ, ◌-◌, ◌<◌, ◌≤◌, get_or}
-use Rattle.ordered_row.proofs.shifts.open_at.Given as goal
-
-abbrev pub invariant-loop-i : goal.invariant-loop-i
-invariant-loop-i g l = (l.at ≤ l.i) × (l.i ≤ l.len) × ((k : ℕ) (d : g.row.T.Denot) → k ≤ l.i → get_or l.row k d ≡ get_or l.initial.row k d) × ((k : ℕ) (d : g.row.T.Denot) → l.i < k → k ≤ l.len → get_or l.row k d ≡ get_or l.initial.row (k - 1) d)
-
-abbrev pub decreases-loop-i : goal.decreases-loop-i
-decreases-loop-i g l = l.i
