@@ -1,3 +1,4 @@
+pub mod Codes
 pub mod Making
 pub mod Ranks
 pub mod Refusals
