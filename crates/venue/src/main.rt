@@ -48,10 +48,10 @@ fn reply_to<B: Line<BidRank> + Drop, O: Line<OfferRank> + Drop, E: Line<EndTime>
 ) -> (usize, bool) {
     let (read, _) = read(message);
     let (answer, goes_on) = match read {
-        Ok(message) => (answer_to(book, message.call()), true),
+        Ok(message) => (answer_to(book, Call::from(message)), true),
         Err(refusal) => (Answer::Refused(refusal), false),
     };
-    match write(&Output::of(answer), out) {
+    match write(&Output::from(answer), out) {
         Ok(size) => (size, goes_on),
         Err(_) => (0, false),
     }

@@ -13,11 +13,11 @@ pub enum Output {
     Reply { refusal: u8, order: u32 },
 }
 
-impl Output {
-    /// The message that tells an answer: a record, or a reply with the refusal's number, with the new order's number, or with neither.
-    pub fn of(answer: Answer) -> Output
-        ensures { result ≡ output_of answer }
-    {
+/// The message that tells an answer: a record, or a reply with the refusal's number, with the new order's number, or with neither.
+impl From<Answer> for Output {
+    ghost from_gives = { λ answer output. output ≡ output_of answer };
+
+    fn from(answer: Answer) -> Output {
         match answer {
             Answer::Refused(refusal) => Output::Reply {
                 refusal: refusal.number(),

@@ -129,7 +129,7 @@ fn removals_and_replies(rt: HostRuntime) -> Result<(), Fail> {
 
 #[test]
 fn answers(rt: HostRuntime) {
-    let told = Output::of(Answer::Refused(Refusal::Book(BookFault::Size)));
+    let told = Output::from(Answer::Refused(Refusal::Book(BookFault::Size)));
     assert!(rt;
         matches!(
             told,
@@ -141,7 +141,7 @@ fn answers(rt: HostRuntime) {
     );
     assert!(rt;
         matches!(
-            Output::of(Answer::Entered(7)),
+            Output::from(Answer::Entered(7)),
             Output::Reply {
                 refusal: 0,
                 order: 7
@@ -150,14 +150,14 @@ fn answers(rt: HostRuntime) {
     );
     assert!(rt;
         matches!(
-            Output::of(Answer::Done),
+            Output::from(Answer::Done),
             Output::Reply {
                 refusal: 0,
                 order: 0
             }
         )
     );
-    let told = Output::of(Answer::Drawn(Record::Removal {
+    let told = Output::from(Answer::Drawn(Record::Removal {
         time: 1,
         number: 2,
         displayed: 3,
