@@ -3,7 +3,7 @@
 
 ghost use Rattle.std.specs.Prelude.{◌≡◌, ◌+◌, IfOk, vec_len};
 
-use layout::number::u16_at;
+use layout::number::Number;
 use std::io;
 use std::io::Read;
 
@@ -32,6 +32,6 @@ fn fill<R: Read>(input: &mut R, held: &mut Vec<u8>, size: usize) -> io::Result<(
 pub fn hold<R: Read>(input: &mut R, held: &mut Vec<u8>) -> io::Result<()> {
     held.clear();
     fill(input, held, 4)?;
-    let size = 2 + u16_at(held.as_slice(), 0) as usize;
+    let size = 2 + u16::read_at(held.as_slice(), 0) as usize;
     fill(input, held, size)
 }

@@ -15,12 +15,9 @@ pub passes : {M : Type 0} (met : Bool) (f : MessageFault) (r : Result M MessageF
 passes true f r m e = (cc, cc)
 passes false f r m e = (refl, e)
 
--- a message of n bytes is there, and means m or is refused
+-- a message of n bytes is there, and means m
 pub read_ok : {M : Type 0} (body : List ℕ → Result M MessageFault) (bs : List ℕ) (n : ℕ) (m : M) → Ok n ≡ framed bs → Ok m ≡ body (take n bs) → (Ok m, n) ≡ reading body bs
 read_ok body bs n m e f = ap (taking n) f ∙ ap (λ (r : Result ℕ MessageFault). reading_by r body bs) e
-
-pub read-err : {M : Type 0} (body : List ℕ → Result M MessageFault) (bs : List ℕ) (n : ℕ) (f : MessageFault) → Ok n ≡ framed bs → Err f ≡ body (take n bs) → (Err (Message f), 0) ≡ reading body bs
-read-err body bs n f e g = ap (taking n) g ∙ ap (λ (r : Result ℕ MessageFault). reading_by r body bs) e
 
 pub framed-bounds : (bs : List ℕ) (n : ℕ) → Ok n ≡ framed bs → (4 ≤ n) × (n ≤ length bs)
 framed-bounds bs n e = grind (arith, nat_tests)

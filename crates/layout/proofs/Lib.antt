@@ -1,6 +1,6 @@
 pub mod Answered
+pub mod Arrays
 pub mod Exact
 pub mod Laid
 pub mod Pastes
-pub mod Powers
 pub mod Widths

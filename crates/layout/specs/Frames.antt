@@ -1,6 +1,7 @@
 -- What all messages share: the head, the refusals that come before any field is looked at, and what reading and writing answer.
 -- Assumes nothing.
-use Rattle.std.specs.Prelude.{ℕ, ◌+◌, Bool, cond, not, ◌||◌, List, [], ◌∷◌, ◌++◌, length, take, drop, Ok, Err, Result, ◌==◌, nat_le, nat_lt}
+use Rattle.std.specs.Prelude.{◌≡◌, ℕ, ◌+◌, Bool, cond, not, ◌||◌, List, [], ◌∷◌, ◌++◌, length, take, drop, Ok, Err, Result, ◌==◌, nat_le, nat_lt, MatchResult}
+use Rattle.std.specs.Borrow.{Bor}
 use Rattle.market.specs.declared.refusal.MessageFault.{MessageFault}
 use Rattle.market.specs.declared.refusal.MessageFault.TheVariants.{Short, Version, Length}
 use Rattle.market.specs.declared.refusal.Refusal.{Refusal}
@@ -39,6 +40,15 @@ reading body bs = reading_by (framed bs) body bs
 abbrev pub beside : {M : Type 0} → Result (M × ℕ) Refusal → Result M Refusal × ℕ
 beside (Ok x) = (Ok x.0, x.1)
 beside (Err r) = (Err r, 0)
+
+-- an answer to an input, where `Means` says what the bytes of one whole message may mean: of the input's own first bytes, if they are
+-- a message
+abbrev pub Answers : {M : Type 0} → (Bor (List ℕ) → Result M MessageFault → Type 0) → Bor (List ℕ) → Result M Refusal × ℕ → Type 0
+Answers {M} Means input answer =
+    MatchResult (framed input.now)
+    (λ n. (bytes : Bor (List ℕ)) × (r : Result M MessageFault)
+    × (bytes.now ≡ take n input.now) × (bytes.ref_ptr ≡ input.ref_ptr) × Means bytes r × (answer ≡ taking n r))
+    (λ f. answer ≡ (Err (Message f), 0))
 
 -- a message: the length of the rest, the version, the kind and the body
 abbrev pub message : ℕ → List ℕ → List ℕ

@@ -1,6 +1,7 @@
 -- Numbers in bytes, the highest byte first. Assumes nothing.
-use Rattle.std.specs.Prelude.{ℕ, zero, suc, ◌/◌, ◌%◌, ◌^◌, List, [], ◌∷◌, take, drop, ℤ, slice_index}
-use Rattle.std.proofs.Common.{to_z, of_z}
+use Rattle.std.specs.Prelude.{◌≡◌, ℕ, zero, suc, ◌/◌, ◌%◌, ◌^◌, ◌<◌, List, [], ◌∷◌, take, drop, ℤ, slice_index}
+use Rattle.std.proofs.Common.{sym, ap, ◌∙◌, to_z, of_z}
+use Rattle.std.proofs.lemmas.Int.{of_z-to_z}
 use Rattle.std.specs.Int.{w32}
 use Rattle.std.specs.Int.Digits.{number_from_digits}
 
@@ -23,6 +24,10 @@ signed n = to_z w32 n
 -- a signed number as its 32 bits
 abbrev pub ticks : ℤ → ℕ
 ticks p = of_z w32 p
+
+-- different bits are different numbers
+pub signed_once : (n m : ℕ) → n < 256 ^ 4 → m < 256 ^ 4 → signed n ≡ signed m → n ≡ m
+signed_once n m h k e = sym (of_z-to_z w32 n h) ∙ ap ticks e ∙ of_z-to_z w32 m k
 
 -- the last `k` bytes of a number
 abbrev pub bytes : ℕ → ℕ → List ℕ

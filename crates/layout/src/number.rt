@@ -1,55 +1,80 @@
 //! Numbers that are read from bytes.
-ghost use Rattle.std.specs.Prelude.{◌≡◌, ◌^◌, ◌<◌, ◌≤◌, length, take, drop};
-ghost use Rattle.layout.specs.Numbers.{big, field, signed};
+ghost use Rattle.std.specs.Prelude.{◌≡◌, ℕ, ◌^◌, ◌<◌};
+ghost use Rattle.layout.specs.Numbers.{big, field, signed, signed_once};
 
-/// The `count` bytes of `bytes` from the place `at` on, as far as they are there.
-fn part(bytes: &[u8], at: usize, count: usize) -> &[u8]
-    ensures value { result.now ≡ take count (drop at bytes.now) }
-    ensures bound { length result.now ≤ count }
+use crate::write::put;
+
+/// The `N` bytes of `bytes` from the place `at` on; where fewer are there, those stand behind zeros.
+fn array_at<const N: usize>(bytes: &[u8], at: usize) -> [u8; N]
+    ensures { big result ≡ field at N bytes.now }
 {
-    if bytes.len() <= at {
-        return &bytes[0..0];
+    let rest = bytes.get(at..).unwrap_or(&[]);
+    let part = &rest[..rest.len().min(N)];
+    let mut array = [0; N];
+    put(&mut array, N - part.len(), part);
+    array
+}
+
+/// A number that a message holds in a fixed count of bytes, the highest first.
+pub trait Number: Sized {
+    // How many bytes.
+    ghost width: { ℕ };
+
+    // What the number that the bytes write means.
+    ghost meant: { ℕ → Self };
+
+    /// The number at the place `at` of `bytes`. Of its bytes those count that are there.
+    fn read_at(bytes: &[u8], at: usize) -> Self
+        ensures { result ≡ meant (field at width bytes.now) };
+
+    // Different bytes never mean the same number.
+    ghost once: { (n m : ℕ) → n < 256 ^ width → m < 256 ^ width → meant n ≡ meant m → n ≡ m };
+}
+
+impl Number for u16 {
+    ghost width = { 2 };
+
+    ghost meant = { λ n. n };
+
+    ghost once = { λ n m h k e. e };
+
+    fn read_at(bytes: &[u8], at: usize) -> u16 {
+        u16::from_be_bytes(array_at(bytes, at))
     }
-    let rest = &bytes[at..];
-    if rest.len() <= count {
-        return rest;
+}
+
+impl Number for u32 {
+    ghost width = { 4 };
+
+    ghost meant = { λ n. n };
+
+    ghost once = { λ n m h k e. e };
+
+    fn read_at(bytes: &[u8], at: usize) -> u32 {
+        u32::from_be_bytes(array_at(bytes, at))
     }
-    &rest[0..count]
 }
 
-/// The number that a few bytes write.
-fn number(bytes: &[u8]) -> u64
-    requires { length bytes.now ≤ 8 }
-    ensures value { result ≡ big bytes.now }
-    ensures bound { result < 256 ^ length bytes.now }
-{
-    let mut n: u64 = 0;
-    for byte in bytes {
-        n = n * 256 + u64::from(*byte);
+impl Number for i32 {
+    ghost width = { 4 };
+
+    ghost meant = { signed };
+
+    ghost once = { signed_once };
+
+    fn read_at(bytes: &[u8], at: usize) -> i32 {
+        i32::from_be_bytes(array_at(bytes, at))
     }
-    n
 }
 
-pub fn u16_at(bytes: &[u8], at: usize) -> u16
-    ensures { result ≡ field at 2 bytes.now }
-{
-    number(part(bytes, at, 2)) as u16
-}
+impl Number for u64 {
+    ghost width = { 8 };
 
-pub fn u32_at(bytes: &[u8], at: usize) -> u32
-    ensures { result ≡ field at 4 bytes.now }
-{
-    number(part(bytes, at, 4)) as u32
-}
+    ghost meant = { λ n. n };
 
-pub fn i32_at(bytes: &[u8], at: usize) -> i32
-    ensures { result ≡ signed (field at 4 bytes.now) }
-{
-    u32_at(bytes, at).cast_signed()
-}
+    ghost once = { λ n m h k e. e };
 
-pub fn u64_at(bytes: &[u8], at: usize) -> u64
-    ensures { result ≡ field at 8 bytes.now }
-{
-    number(part(bytes, at, 8))
+    fn read_at(bytes: &[u8], at: usize) -> u64 {
+        u64::from_be_bytes(array_at(bytes, at))
+    }
 }

@@ -22,15 +22,13 @@ impl Field {
 fn size(fields: &[Field]) -> usize
     ensures { result ≡ min (2 ^ 64 - 1) (length (in_bytes fields.now)) }
 {
-    let mut total: usize = 0;
-    for field in fields {
-        total = total.saturating_add(field.size());
-    }
-    total
+    fields
+        .iter()
+        .fold(0, |total, field| field.size().saturating_add(total))
 }
 
 /// Writes `part` into `buf` from the place `at` on.
-fn put(buf: &mut [u8], at: usize, part: &[u8])
+pub(crate) fn put(buf: &mut [u8], at: usize, part: &[u8])
     requires { at + length part.now ≤ length buf.old }
     ensures { buf.new ≡ pasted buf.old at part.now }
 {

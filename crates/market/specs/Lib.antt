@@ -1,4 +1,5 @@
 pub mod Answers
+pub mod Codes
 pub mod Making
 pub mod Ranks
 pub mod Refusals

@@ -1,4 +1,9 @@
 //! Orders.
+ghost use Rattle.std.specs.Prelude.{◌≡◌};
+ghost use Rattle.market.specs.Codes.{side_byte, side_in, type_byte, type_in};
+
+use crate::refusal::MessageFault;
+use std::fmt;
 
 /// A side of the market: bids buy, offers sell.
 #[derive(Clone, Copy, PartialEq, Eq)]
@@ -16,6 +21,79 @@ pub enum OrderType {
     FaK,
     /// Fill and Kill Immediate: the rest goes at once.
     FaKI,
+}
+
+/// As a message carries it.
+impl From<Side> for u8 {
+    ghost from_gives = { λ side byte. byte ≡ side_byte side };
+
+    fn from(side: Side) -> u8 {
+        match side {
+            Side::Bid => 0,
+            Side::Offer => 1,
+        }
+    }
+}
+
+impl TryFrom<u8> for Side {
+    type Error = MessageFault;
+
+    ghost try_from_gives = { λ byte side. side ≡ side_in byte };
+
+    fn try_from(byte: u8) -> Result<Side, MessageFault> {
+        match byte {
+            0 => Ok(Side::Bid),
+            1 => Ok(Side::Offer),
+            _ => Err(MessageFault::Side),
+        }
+    }
+}
+
+impl fmt::Display for Side {
+    fn fmt<W: fmt::Write>(&self, f: &mut fmt::Formatter<W>) -> fmt::Result {
+        f.write_str(match self {
+            Side::Bid => "bid",
+            Side::Offer => "offer",
+        })
+    }
+}
+
+/// As a message carries it.
+impl From<OrderType> for u8 {
+    ghost from_gives = { λ kind byte. byte ≡ type_byte kind };
+
+    fn from(kind: OrderType) -> u8 {
+        match kind {
+            OrderType::FaS => 0,
+            OrderType::FaK => 1,
+            OrderType::FaKI => 2,
+        }
+    }
+}
+
+impl TryFrom<u8> for OrderType {
+    type Error = MessageFault;
+
+    ghost try_from_gives = { λ byte kind. kind ≡ type_in byte };
+
+    fn try_from(byte: u8) -> Result<OrderType, MessageFault> {
+        match byte {
+            0 => Ok(OrderType::FaS),
+            1 => Ok(OrderType::FaK),
+            2 => Ok(OrderType::FaKI),
+            _ => Err(MessageFault::OrderType),
+        }
+    }
+}
+
+impl fmt::Display for OrderType {
+    fn fmt<W: fmt::Write>(&self, f: &mut fmt::Formatter<W>) -> fmt::Result {
+        f.write_str(match self {
+            OrderType::FaS => "FaS",
+            OrderType::FaK => "FaK",
+            OrderType::FaKI => "FaKI",
+        })
+    }
 }
 
 /// All that anybody may know of a live order. Its reserve, the hidden size from which the displayed size is topped up, is kept

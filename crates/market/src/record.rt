@@ -1,4 +1,9 @@
 //! What the tape tells everybody: one record a draw, with the time that the book has reached.
+ghost use Rattle.std.specs.Prelude.{◌≡◌};
+ghost use Rattle.market.specs.Codes.{cause_byte, cause_in};
+
+use crate::refusal::MessageFault;
+use std::fmt;
 
 /// Why an order was removed.
 #[derive(Clone, Copy)]
@@ -9,6 +14,45 @@ pub enum Cause {
     FaK,
     /// Its end time came.
     End,
+}
+
+/// As a message carries it.
+impl From<Cause> for u8 {
+    ghost from_gives = { λ cause byte. byte ≡ cause_byte cause };
+
+    fn from(cause: Cause) -> u8 {
+        match cause {
+            Cause::FaKI => 1,
+            Cause::FaK => 2,
+            Cause::End => 3,
+        }
+    }
+}
+
+/// A removal for a cause that there is none is of no kind that there is.
+impl TryFrom<u8> for Cause {
+    type Error = MessageFault;
+
+    ghost try_from_gives = { λ byte cause. cause ≡ cause_in byte };
+
+    fn try_from(byte: u8) -> Result<Cause, MessageFault> {
+        match byte {
+            1 => Ok(Cause::FaKI),
+            2 => Ok(Cause::FaK),
+            3 => Ok(Cause::End),
+            _ => Err(MessageFault::Kind),
+        }
+    }
+}
+
+impl fmt::Display for Cause {
+    fn fmt<W: fmt::Write>(&self, f: &mut fmt::Formatter<W>) -> fmt::Result {
+        f.write_str(match self {
+            Cause::FaKI => "FaKI",
+            Cause::FaK => "FaK",
+            Cause::End => "end",
+        })
+    }
 }
 
 /// A bid and an offer traded with each other.

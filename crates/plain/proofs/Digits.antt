@@ -56,10 +56,6 @@ all_read cs most l d h =
     let small : leb (value cs) most ≡ true = le-leb (value cs) most h in
     sym (cond-true _ (Some (value cs)) None (and_from _ _ some (and_from _ _ d small)))
 
--- what is read is at most the most that it may be
-pub numeral-most : (cs : List ℕ) (most n : ℕ) → Some n ≡ numeral most cs → n ≤ most
-numeral-most cs most n e = grind (arith, nat_tests)
-
 pub digit-yes : (c d : ℕ) → Some d ≡ digit_of c → (within 48 57 c ≡ true) × (d ≡ c - 48)
 digit-yes c d e = given (within 48 57 c) e
   where

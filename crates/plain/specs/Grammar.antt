@@ -53,11 +53,15 @@ abbrev pub value_in : Name → List ℕ → Parsed (List ℕ)
 value_in name bs =
     cond (bytes_eq (first_word bs) (name_of name)) (Ok (first_word (after_word bs), after_word (after_word bs))) (Err (Missing name))
 
+-- the number behind the name of a field, as a word writes such numbers
+abbrev pub written_in : {X : Type 0} → (List ℕ → Option X) → Name → List ℕ → Parsed X
+written_in written name bs = then (value_in name bs) (λ word rest. worth name (written word) rest)
+
 abbrev pub number_in : Name → ℕ → List ℕ → Parsed ℕ
-number_in name most bs = then (value_in name bs) (λ word rest. worth name (numeral most word) rest)
+number_in name most bs = written_in (numeral most) name bs
 
 abbrev pub price_in : List ℕ → Parsed ℤ
-price_in bs = then (value_in Price bs) (λ word rest. worth Price (signed_of word) rest)
+price_in bs = written_in signed_of Price bs
 
 -- a time above 0
 abbrev pub timed : Option ℕ → List ℕ → Parsed (Option ℕ)

@@ -2,6 +2,8 @@
 ghost use Rattle.std.specs.Prelude.{◌≡◌};
 ghost use Rattle.plain.specs.Words.{name_of};
 
+use std::fmt;
+
 /// The fields of a call that stand behind their names.
 #[derive(Clone, Copy)]
 pub enum Name {
@@ -45,6 +47,25 @@ impl Name {
             Name::End => "end",
             Name::Time => "time",
             Name::Reference => "reference",
+        }
+    }
+}
+
+impl fmt::Display for Name {
+    fn fmt<W: fmt::Write>(&self, f: &mut fmt::Formatter<W>) -> fmt::Result {
+        f.write_str(self.text())
+    }
+}
+
+impl fmt::Display for TextFault {
+    fn fmt<W: fmt::Write>(&self, f: &mut fmt::Formatter<W>) -> fmt::Result {
+        match self {
+            TextFault::Call => f.write_str("no call has that name"),
+            TextFault::Missing(name) => write!(f, "{name} was expected"),
+            TextFault::Value(name) => write!(f, "no value of {name}"),
+            TextFault::Side => f.write_str("bid or offer was expected"),
+            TextFault::OrderType => f.write_str("FaS, FaK or FaKI was expected"),
+            TextFault::More => f.write_str("something follows the call"),
         }
     }
 }

@@ -1,5 +1,5 @@
 //! Numbers in words.
-ghost use Rattle.std.specs.Prelude.{◌≡◌};
+ghost use Rattle.std.specs.Prelude.{◌≡◌, ℕ, ◌≤◌, List, Option, IfSome};
 ghost use Rattle.plain.specs.Numerals.{digit_of, numeral as numeral_of, signed_of};
 
 fn digit(byte: u8) -> Option<u8>
@@ -12,18 +12,16 @@ fn digit(byte: u8) -> Option<u8>
 }
 
 /// The number that decimal digits write, if it is at most `most`.
-pub(crate) fn numeral(word: &[u8], most: u64) -> Option<u64>
-    ensures { result ≡ numeral_of most word.now }
+fn numeral(word: &[u8], most: u64) -> Option<u64>
+    ensures value { result ≡ numeral_of most word.now }
+    ensures bound { IfSome result (λ n. n ≤ most) }
 {
     if word.is_empty() {
         return None;
     }
     let mut n: u128 = 0;
     for byte in word {
-        let Some(digit) = digit(*byte) else {
-            return None;
-        };
-        n = n * 10 + u128::from(digit);
+        n = n * 10 + u128::from(digit(*byte)?);
         if u128::from(most) < n {
             return None;
         }
@@ -31,18 +29,47 @@ pub(crate) fn numeral(word: &[u8], most: u64) -> Option<u64>
     Some(n as u64)
 }
 
-/// The number of ticks that a word writes: digits, perhaps behind a minus sign.
-pub(crate) fn signed(word: &[u8]) -> Option<i32>
-    ensures { result ≡ signed_of word.now }
-{
-    match word {
-        [b'-', digits @ ..] => match numeral(digits, 2_147_483_648) {
-            Some(n) => Some(-(n as i64) as i32),
-            None => None,
-        },
-        _ => match numeral(word, 2_147_483_647) {
-            Some(n) => Some(n as i32),
-            None => None,
-        },
+/// A number that a word can write.
+pub(crate) trait FromWord: Sized {
+    // The number that a word writes, if it writes one of this type.
+    ghost written: { List ℕ → Option Self };
+
+    fn from_word(word: &[u8]) -> Option<Self>
+        ensures { result ≡ written word.now };
+}
+
+impl FromWord for u8 {
+    ghost written = { numeral_of 255 };
+
+    fn from_word(word: &[u8]) -> Option<u8> {
+        Some(numeral(word, 255)? as u8)
+    }
+}
+
+impl FromWord for u32 {
+    ghost written = { numeral_of 4294967295 };
+
+    fn from_word(word: &[u8]) -> Option<u32> {
+        Some(numeral(word, 4_294_967_295)? as u32)
+    }
+}
+
+impl FromWord for u64 {
+    ghost written = { numeral_of 18446744073709551615 };
+
+    fn from_word(word: &[u8]) -> Option<u64> {
+        numeral(word, u64::MAX)
+    }
+}
+
+/// Digits, perhaps behind a minus sign.
+impl FromWord for i32 {
+    ghost written = { signed_of };
+
+    fn from_word(word: &[u8]) -> Option<i32> {
+        match word {
+            [b'-', digits @ ..] => Some(-(numeral(digits, 2_147_483_648)? as i64) as i32),
+            _ => Some(numeral(word, 2_147_483_647)? as i32),
+        }
     }
 }

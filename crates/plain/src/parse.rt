@@ -1,10 +1,10 @@
 //! Calls from lines of words.
-ghost use Rattle.std.specs.Prelude.{◌≡◌, ◌≤◌, IfOk};
-ghost use Rattle.plain.specs.Grammar.{both, followed, shown, value_in, number_in, price_in, end_in, side_in, type_in, ended_in, reference_in, entry_in, change_in, cancel_in, tick_in, call_in, line_in, heard, heard_line};
+ghost use Rattle.std.specs.Prelude.{◌≡◌};
+ghost use Rattle.plain.specs.Grammar.{both, followed, shown, value_in, written_in, end_in, side_in, type_in, ended_in, reference_in, entry_in, change_in, cancel_in, tick_in, call_in, line_in, heard, heard_line};
 
 use crate::fault::{Name, TextFault};
-use crate::numeral::{numeral, signed};
-use crate::word::{Verb, call_named, cut, is};
+use crate::numeral::FromWord;
+use crate::word::{Verb, call_named, cut};
 use market::call::{OrderCancel, OrderChange, OrderEntry};
 use market::order::{OrderType, Side};
 use wire_in::message::CallMessage;
@@ -14,45 +14,20 @@ fn value<'a>(text: &'a [u8], name: Name) -> Result<(&'a [u8], &'a [u8]), TextFau
     ensures { both result ≡ value_in name text.now }
 {
     let (word, rest) = cut(text);
-    if !is(word, name.text().as_bytes()) {
+    if word != name.text().as_bytes() {
         return Err(TextFault::Missing(name));
     }
     Ok(cut(rest))
 }
 
-fn number<'a>(text: &'a [u8], name: Name, most: u64) -> Result<(u64, &'a [u8]), TextFault>
-    ensures value { followed result ≡ number_in name most text.now }
-    ensures bound { IfOk result (λ p. p.0 ≤ most) }
+/// The number behind the name of a field, and what follows it.
+fn number<'a, T: FromWord>(text: &'a [u8], name: Name) -> Result<(T, &'a [u8]), TextFault>
+    ensures { followed result ≡ written_in T.written name text.now }
 {
     let (word, rest) = value(text, name)?;
-    match numeral(word, most) {
+    match T::from_word(word) {
         Some(n) => Ok((n, rest)),
         None => Err(TextFault::Value(name)),
-    }
-}
-
-/// A number of 32 bits.
-fn number32<'a>(text: &'a [u8], name: Name) -> Result<(u32, &'a [u8]), TextFault>
-    ensures { followed result ≡ number_in name 4294967295 text.now }
-{
-    let (n, rest) = number(text, name, 4_294_967_295)?;
-    Ok((n as u32, rest))
-}
-
-fn trader<'a>(text: &'a [u8]) -> Result<(u8, &'a [u8]), TextFault>
-    ensures { followed result ≡ number_in Name.Trader 255 text.now }
-{
-    let (n, rest) = number(text, Name::Trader, 255)?;
-    Ok((n as u8, rest))
-}
-
-fn price<'a>(text: &'a [u8]) -> Result<(i32, &'a [u8]), TextFault>
-    ensures { followed result ≡ price_in text.now }
-{
-    let (word, rest) = value(text, Name::Price)?;
-    match signed(word) {
-        Some(ticks) => Ok((ticks, rest)),
-        None => Err(TextFault::Value(Name::Price)),
     }
 }
 
@@ -61,12 +36,12 @@ fn end_time<'a>(text: &'a [u8]) -> Result<(Option<u64>, &'a [u8]), TextFault>
     ensures { followed result ≡ end_in text.now }
 {
     let (word, rest) = value(text, Name::End)?;
-    if is(word, b"none") {
+    if word == b"none".as_slice() {
         return Ok((None, rest));
     }
-    match numeral(word, 18_446_744_073_709_551_615) {
+    match u64::from_word(word) {
         None | Some(0) => Err(TextFault::Value(Name::End)),
-        Some(time) => Ok((Some(time), rest)),
+        time => Ok((time, rest)),
     }
 }
 
@@ -74,9 +49,9 @@ fn side<'a>(text: &'a [u8]) -> Result<(Side, &'a [u8]), TextFault>
     ensures { followed result ≡ side_in text.now }
 {
     let (word, rest) = cut(text);
-    if is(word, b"bid") {
+    if word == b"bid".as_slice() {
         Ok((Side::Bid, rest))
-    } else if is(word, b"offer") {
+    } else if word == b"offer".as_slice() {
         Ok((Side::Offer, rest))
     } else {
         Err(TextFault::Side)
@@ -87,11 +62,11 @@ fn order_type<'a>(text: &'a [u8]) -> Result<(OrderType, &'a [u8]), TextFault>
     ensures { followed result ≡ type_in text.now }
 {
     let (word, rest) = cut(text);
-    if is(word, b"FaS") {
+    if word == b"FaS".as_slice() {
         Ok((OrderType::FaS, rest))
-    } else if is(word, b"FaK") {
+    } else if word == b"FaK".as_slice() {
         Ok((OrderType::FaK, rest))
-    } else if is(word, b"FaKI") {
+    } else if word == b"FaKI".as_slice() {
         Ok((OrderType::FaKI, rest))
     } else {
         Err(TextFault::OrderType)
@@ -129,12 +104,12 @@ fn reference<'a>(text: &'a [u8]) -> Result<&'a [u8], TextFault>
 fn entry<'a>(text: &'a [u8]) -> Result<CallMessage<'a>, TextFault>
     ensures { heard result ≡ entry_in text.now }
 {
-    let (trader, text) = trader(text)?;
+    let (trader, text) = number(text, Name::Trader)?;
     let (side, text) = side(text)?;
     let (kind, text) = order_type(text)?;
-    let (price, text) = price(text)?;
-    let (displayed, text) = number32(text, Name::Displayed)?;
-    let (reserve, text) = number32(text, Name::Reserve)?;
+    let (price, text) = number(text, Name::Price)?;
+    let (displayed, text) = number(text, Name::Displayed)?;
+    let (reserve, text) = number(text, Name::Reserve)?;
     let (end, text) = end_time(text)?;
     let reference = reference(text)?;
     let order = OrderEntry {
@@ -152,15 +127,15 @@ fn entry<'a>(text: &'a [u8]) -> Result<CallMessage<'a>, TextFault>
 fn change(text: &[u8]) -> Result<OrderChange, TextFault>
     ensures { result ≡ change_in text.now }
 {
-    let (trader, text) = trader(text)?;
-    let (number, text) = number32(text, Name::Order)?;
-    let (price, text) = price(text)?;
-    let (displayed, text) = number32(text, Name::Displayed)?;
-    let (reserve, text) = number32(text, Name::Reserve)?;
+    let (trader, text) = number(text, Name::Trader)?;
+    let (order, text) = number(text, Name::Order)?;
+    let (price, text) = number(text, Name::Price)?;
+    let (displayed, text) = number(text, Name::Displayed)?;
+    let (reserve, text) = number(text, Name::Reserve)?;
     ended(text)?;
     Ok(OrderChange {
         trader,
-        number,
+        number: order,
         price,
         displayed,
         reserve,
@@ -170,16 +145,19 @@ fn change(text: &[u8]) -> Result<OrderChange, TextFault>
 fn cancel(text: &[u8]) -> Result<OrderCancel, TextFault>
     ensures { result ≡ cancel_in text.now }
 {
-    let (trader, text) = trader(text)?;
-    let (number, text) = number32(text, Name::Order)?;
+    let (trader, text) = number(text, Name::Trader)?;
+    let (order, text) = number(text, Name::Order)?;
     ended(text)?;
-    Ok(OrderCancel { trader, number })
+    Ok(OrderCancel {
+        trader,
+        number: order,
+    })
 }
 
 fn tick(text: &[u8]) -> Result<u64, TextFault>
     ensures { result ≡ tick_in text.now }
 {
-    let (time, text) = number(text, Name::Time, 18_446_744_073_709_551_615)?;
+    let (time, text) = number(text, Name::Time)?;
     ended(text)?;
     Ok(time)
 }

@@ -1,8 +1,6 @@
 //! Words, and what single ones mean.
-ghost use Rattle.std.specs.Prelude.{◌≡◌, ◌≤◌, length};
-ghost use Rattle.std.specs.List.{prefix_len};
-ghost use Rattle.std.specs.Str.{bytes_eq};
-ghost use Rattle.plain.specs.Words.{blank, alike, first_word, after_word, verb_of};
+ghost use Rattle.std.specs.Prelude.{◌≡◌};
+ghost use Rattle.plain.specs.Words.{blank, trimmed, first_word, after_word, verb_of};
 
 /// The calls by their names.
 #[derive(Clone, Copy)]
@@ -14,25 +12,19 @@ pub(crate) enum Verb {
     Draw,
 }
 
-/// Whether a word is this one.
-pub(crate) fn is(word: &[u8], other: &[u8]) -> bool
-    ensures { result ≡ bytes_eq word.now other.now }
-{
-    word == other
-}
-
+// Byte strings as patterns of a `match` were tried here, and the proof did not close.
 pub(crate) fn call_named(word: &[u8]) -> Option<Verb>
     ensures { result ≡ verb_of word.now }
 {
-    if is(word, b"entry") {
+    if word == b"entry".as_slice() {
         Some(Verb::Entry)
-    } else if is(word, b"change") {
+    } else if word == b"change".as_slice() {
         Some(Verb::Change)
-    } else if is(word, b"cancel") {
+    } else if word == b"cancel".as_slice() {
         Some(Verb::Cancel)
-    } else if is(word, b"tick") {
+    } else if word == b"tick".as_slice() {
         Some(Verb::Tick)
-    } else if is(word, b"draw") {
+    } else if word == b"draw".as_slice() {
         Some(Verb::Draw)
     } else {
         None
@@ -46,17 +38,12 @@ fn is_blank(byte: u8) -> bool
     byte == b' ' || byte == b'\t' || byte == b'\r'
 }
 
-/// How many bytes at the front are blank, or are not.
-fn front(text: &[u8], blanks: bool) -> usize
-    ensures value { result ≡ prefix_len (alike blanks) text.now }
-    ensures bound { result ≤ length text.now }
+/// A text from its first word on.
+fn trim(text: &[u8]) -> &[u8]
+    ensures { result.now ≡ trimmed text.now }
 {
-    for (i, byte) in text.iter().enumerate() {
-        if is_blank(*byte) != blanks {
-            return i;
-        }
-    }
-    text.len()
+    let blanks = text.iter().take_while(|byte| is_blank(**byte)).count();
+    &text[blanks..]
 }
 
 /// The first word of a text, which is empty where there is none, and what follows it.
@@ -64,8 +51,7 @@ pub(crate) fn cut(text: &[u8]) -> (&[u8], &[u8])
     ensures first { result.0.now ≡ first_word text.now }
     ensures rest { result.1.now ≡ after_word text.now }
 {
-    let start = front(text, true);
-    let rest = &text[start..];
-    let end = front(rest, false);
-    (&rest[0..end], &rest[end..])
+    let text = trim(text);
+    let end = text.iter().take_while(|byte| !is_blank(**byte)).count();
+    text.split_at(end)
 }

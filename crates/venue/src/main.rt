@@ -61,7 +61,7 @@ fn serve<B: Line<BidRank> + Drop, O: Line<OfferRank> + Drop, E: Line<EndTime> + 
             break;
         }
         match read(held.as_slice()).0 {
-            Ok(message) => tell(rt, answer_to(book, message.call()))?,
+            Ok(message) => tell(rt, answer_to(book, Call::from(message)))?,
             Err(refusal) => return tell(rt, Err(refusal)),
         }
     }

@@ -11,6 +11,7 @@ use Rattle.market.specs.declared.order.Side.{Side}
 use Rattle.market.specs.declared.order.Side.TheVariants.{Bid, Offer}
 use Rattle.market.specs.declared.order.OrderType.{OrderType}
 use Rattle.market.specs.declared.order.OrderType.TheVariants.{FaS, FaK, FaKI}
+use Rattle.market.specs.Codes.{side_byte, type_byte, side_of, type_of}
 use Rattle.market.specs.Tenors.{within}
 use Rattle.market.specs.declared.refusal.MessageFault.{MessageFault}
 use Rattle.market.specs.declared.refusal.MessageFault.TheVariants.{Kind, Length, Side as NoSide, OrderType as NoType}
@@ -23,8 +24,8 @@ use Rattle.layout.proofs.Laid.{price-back, byte-then, code-then, bytes-then, pri
 use Rattle.layout.proofs.Widths.{big-back, field-part, field-small}
 use Rattle.wire_in.specs.Laws.{FittingEnd, Fitting}
 use Rattle.wire_in.specs.Messages.{Message, entry, change, cancel, tick, draw}
-use Rattle.wire_in.specs.Reading.{side_of, type_of, end_of, order_in, change_in, cancel_in, fits, body_in, call_in}
-use Rattle.wire_in.specs.Writing.{side_byte, type_byte, kind_of, fields_of, reference_of, coded}
+use Rattle.wire_in.specs.Reading.{end_of, order_in, change_in, cancel_in, fits, body_in, call_in}
+use Rattle.wire_in.specs.Writing.{kind_of, fields_of, reference_of, coded}
 
 -- what a message holds behind its head
 abbrev content : Message → List ℕ

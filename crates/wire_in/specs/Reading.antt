@@ -1,34 +1,19 @@
 -- What the bytes of a call mean. Assumes nothing.
 use Rattle.std.specs.Prelude.{ℕ, Bool, cond, not, ◌&&◌, ◌||◌, List, [], ◌∷◌, length, drop, Some, None, Ok, Option, Result, ◌==◌, nat_lt}
+use Rattle.market.specs.Codes.{side_of, type_of}
 use Rattle.market.specs.Tenors.{within}
 use Rattle.market.specs.declared.call.OrderEntry.{OrderEntry}
 use Rattle.market.specs.declared.call.OrderChange.{OrderChange}
 use Rattle.market.specs.declared.call.OrderCancel.{OrderCancel}
-use Rattle.market.specs.declared.order.Side.{Side}
-use Rattle.market.specs.declared.order.Side.TheVariants.{Bid, Offer}
-use Rattle.market.specs.declared.order.OrderType.{OrderType}
-use Rattle.market.specs.declared.order.OrderType.TheVariants.{FaS, FaK, FaKI}
 use Rattle.market.specs.declared.refusal.MessageFault.{MessageFault}
 use Rattle.market.specs.declared.refusal.MessageFault.TheVariants.{Kind, Length, Side as NoSide, OrderType as NoType}
 use Rattle.layout.specs.Frames.{refusing}
 use Rattle.layout.specs.Numbers.{byte, field, signed}
 use Rattle.wire_in.specs.Messages.{Message, entry, change, cancel, tick, draw}
 
-abbrev pub side_of : ℕ → Side
-side_of b = cond (b == 0) Bid Offer
-
-abbrev pub type_of : ℕ → OrderType
-type_of b = cond (b == 0) FaS (cond (b == 1) FaK FaKI)
-
 -- 0 is no end time
 abbrev pub end_of : ℕ → Option ℕ
 end_of n = cond (n == 0) None (Some n)
-
-abbrev pub side_in : ℕ → Result Side MessageFault
-side_in b = refusing ((nat_lt 1 b, NoSide) ∷ []) (Ok (side_of b))
-
-abbrev pub type_in : ℕ → Result OrderType MessageFault
-type_in b = refusing ((nat_lt 2 b, NoType) ∷ []) (Ok (type_of b))
 
 -- an entry: trader, side, type, price, displayed, reserve and end, then the reference
 abbrev pub order_in : List ℕ → OrderEntry

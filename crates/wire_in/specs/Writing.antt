@@ -1,10 +1,7 @@
 -- The bytes of a call. Assumes nothing.
 use Rattle.std.specs.Prelude.{ℕ, Bool, false, cond, List, [], ◌∷◌, ◌++◌, length, Some, None, Ok, Err, Option, Result, ◌==◌, nat_lt}
 use Rattle.std.specs.Option.{unwrap_or}
-use Rattle.market.specs.declared.order.Side.{Side}
-use Rattle.market.specs.declared.order.Side.TheVariants.{Bid, Offer}
-use Rattle.market.specs.declared.order.OrderType.{OrderType}
-use Rattle.market.specs.declared.order.OrderType.TheVariants.{FaS, FaK, FaKI}
+use Rattle.market.specs.Codes.{side_byte, type_byte}
 use Rattle.market.specs.declared.refusal.MessageFault.TheVariants.{Length}
 use Rattle.market.specs.declared.refusal.BookFault.{BookFault}
 use Rattle.market.specs.declared.refusal.BookFault.TheVariants.{End}
@@ -15,15 +12,6 @@ use Rattle.layout.specs.Frames.{message, writing}
 use Rattle.layout.specs.declared.field.Field.{Field}
 use Rattle.layout.specs.declared.field.Field.TheVariants.{Byte, Number, Price, Time}
 use Rattle.wire_in.specs.Messages.{Message, entry, change, cancel, tick, draw}
-
-abbrev pub side_byte : Side → ℕ
-side_byte Bid = 0
-side_byte Offer = 1
-
-abbrev pub type_byte : OrderType → ℕ
-type_byte FaS = 0
-type_byte FaK = 1
-type_byte FaKI = 2
 
 abbrev pub kind_of : Message → ℕ
 kind_of (entry order reference) = 1

@@ -20,12 +20,12 @@ pub enum CallMessage<'a> {
     Draw,
 }
 
-impl CallMessage<'_> {
-    /// The call, without the reference.
-    pub fn call(&self) -> Call
-        ensures { result ≡ call_of (said self.now) }
-    {
-        match *self {
+/// The call, without the reference.
+impl From<CallMessage<'_>> for Call {
+    ghost from_gives = { λ message call. call ≡ call_of (said message) };
+
+    fn from(message: CallMessage<'_>) -> Call {
+        match message {
             CallMessage::Entry { order, .. } => Call::Entry(order),
             CallMessage::Change(change) => Call::Change(change),
             CallMessage::Cancel(cancel) => Call::Cancel(cancel),

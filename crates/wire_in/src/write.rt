@@ -1,33 +1,13 @@
 //! Writing calls.
 ghost use Rattle.std.specs.Prelude.{◌≡◌, ◌≤◌, length, IfOk};
 ghost use Rattle.wire_in.specs.Messages.{said, entry};
-ghost use Rattle.wire_in.specs.Writing.{side_byte, type_byte, end_number, writing_call};
+ghost use Rattle.wire_in.specs.Writing.{end_number, writing_call};
 
 use crate::message::CallMessage;
 use layout::field::Field;
 use layout::write::write_message;
 use market::call::OrderEntry;
-use market::order::{OrderType, Side};
 use market::refusal::{BookFault, MessageFault, Refusal};
-
-fn side_byte(side: Side) -> u8
-    ensures { result ≡ side_byte side }
-{
-    match side {
-        Side::Bid => 0,
-        Side::Offer => 1,
-    }
-}
-
-fn type_byte(kind: OrderType) -> u8
-    ensures { result ≡ type_byte kind }
-{
-    match kind {
-        OrderType::FaS => 0,
-        OrderType::FaK => 1,
-        OrderType::FaKI => 2,
-    }
-}
 
 /// How an end time is written: none as 0, which is no end time, since it comes before any time of a book.
 fn end_number(end: Option<u64>) -> Result<u64, BookFault>
@@ -50,8 +30,8 @@ fn write_entry(order: &OrderEntry, reference: &[u8], buf: &mut [u8]) -> Result<u
     let end = end_number(order.end)?;
     let fields = [
         Field::Byte(order.trader),
-        Field::Byte(side_byte(order.side)),
-        Field::Byte(type_byte(order.kind)),
+        Field::Byte(order.side.into()),
+        Field::Byte(order.kind.into()),
         Field::Price(order.price),
         Field::Number(order.displayed),
         Field::Number(order.reserve),

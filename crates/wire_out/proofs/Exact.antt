@@ -5,6 +5,7 @@ use Rattle.std.proofs.lemmas.List.{drop_all}
 use Rattle.std.proofs.lemmas.Bool.{eqb-true, not-false}
 use Rattle.std.proofs.lemmas.Bool.Decides.{nat_tests}
 use Rattle.std.specs.Int.Digits.{AllBelowBase}
+use Rattle.market.specs.Codes.{cause_byte, cause_of}
 use Rattle.market.specs.Tenors.{within}
 use Rattle.market.specs.declared.record.Cause.{Cause}
 use Rattle.market.specs.declared.record.Cause.TheVariants.{FaKI, FaK, End}
@@ -22,8 +23,8 @@ use Rattle.layout.proofs.Widths.{big-back, field-small}
 use Rattle.wire_out.specs.declared.output.Output.{Output}
 use Rattle.wire_out.specs.declared.output.Output.TheVariants.{Record as Recorded, Reply}
 use Rattle.wire_out.specs.Laws.{Fitting}
-use Rattle.wire_out.specs.Reading.{cause_of, fill_in, known, length_of, body_in, output_in}
-use Rattle.wire_out.specs.Writing.{cause_byte, kind_of, fields_of, coded}
+use Rattle.wire_out.specs.Reading.{fill_in, known, length_of, body_in, output_in}
+use Rattle.wire_out.specs.Writing.{kind_of, fields_of, coded}
 
 -- what a message holds behind its head
 abbrev content : Output → List ℕ

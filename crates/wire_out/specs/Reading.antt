@@ -1,8 +1,7 @@
 -- What the bytes of records and replies mean. Assumes nothing.
 use Rattle.std.specs.Prelude.{ℕ, Bool, cond, not, ◌||◌, List, [], ◌∷◌, length, Ok, Result, ◌==◌}
+use Rattle.market.specs.Codes.{cause_of}
 use Rattle.market.specs.Tenors.{within}
-use Rattle.market.specs.declared.record.Cause.{Cause}
-use Rattle.market.specs.declared.record.Cause.TheVariants.{FaKI, FaK, End}
 use Rattle.market.specs.declared.record.Fill.{Fill}
 use Rattle.market.specs.declared.record.Record.TheVariants.{Quiet, Fill as Filled, Session, Rolling, Fbs, Open, Removal}
 use Rattle.market.specs.declared.refusal.MessageFault.{MessageFault}
@@ -11,13 +10,6 @@ use Rattle.layout.specs.Frames.{refusing}
 use Rattle.layout.specs.Numbers.{byte, field, signed}
 use Rattle.wire_out.specs.declared.output.Output.{Output}
 use Rattle.wire_out.specs.declared.output.Output.TheVariants.{Record as Recorded, Reply}
-
-abbrev pub cause_of : ℕ → Cause
-cause_of b = cond (b == 1) FaKI (cond (b == 2) FaK End)
-
--- a removal for a cause that there is none is of no kind that there is
-abbrev pub cause_in : ℕ → Result Cause MessageFault
-cause_in b = refusing ((not (within 1 3 b), Kind) ∷ []) (Ok (cause_of b))
 
 abbrev pub fill_in : List ℕ → Fill
 fill_in bs =
@@ -30,6 +22,7 @@ fill_in bs =
       offerleft = field 32 4 bs;
     }
 
+-- a removal for a cause that there is none is of no kind that there is
 abbrev pub removal_in : List ℕ → Result Output MessageFault
 removal_in bs =
     refusing ((not (within 1 3 (byte 20 bs)), Kind) ∷ [])

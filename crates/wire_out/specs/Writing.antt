@@ -1,7 +1,6 @@
 -- The bytes of records and replies. Assumes nothing.
 use Rattle.std.specs.Prelude.{ℕ, List, [], ◌∷◌}
-use Rattle.market.specs.declared.record.Cause.{Cause}
-use Rattle.market.specs.declared.record.Cause.TheVariants.{FaKI, FaK, End}
+use Rattle.market.specs.Codes.{cause_byte}
 use Rattle.market.specs.declared.record.Record.{Record}
 use Rattle.market.specs.declared.record.Record.TheVariants.{Quiet, Fill, Session, Rolling, Fbs, Open, Removal}
 use Rattle.layout.specs.Fields.{in_bytes}
@@ -10,11 +9,6 @@ use Rattle.layout.specs.declared.field.Field.{Field}
 use Rattle.layout.specs.declared.field.Field.TheVariants.{Byte, Number, Price, Time}
 use Rattle.wire_out.specs.declared.output.Output.{Output}
 use Rattle.wire_out.specs.declared.output.Output.TheVariants.{Record as Recorded, Reply}
-
-abbrev pub cause_byte : Cause → ℕ
-cause_byte FaKI = 1
-cause_byte FaK = 2
-cause_byte End = 3
 
 abbrev pub record_kind : Record → ℕ
 record_kind (Quiet time) = 16

@@ -13,10 +13,10 @@ pub enum Output {
     Reply { refusal: u8, order: u32 },
 }
 
+/// The message that tells an answer: a record, or a reply with the refusal's number, with the new order's number, or with neither.
 impl From<Answer> for Output {
     ghost from_gives = { λ answer output. output ≡ output_of answer };
 
-    /// The message that tells an answer: a record, or a reply with the refusal's number, with the new order's number, or with neither.
     fn from(answer: Answer) -> Output {
         match answer {
             Err(refusal) => Output::Reply {

@@ -1,23 +1,13 @@
 //! Writing records and replies.
 ghost use Rattle.std.specs.Prelude.{◌≡◌, ◌≤◌, length, IfOk};
 ghost use Rattle.layout.specs.Frames.{writing};
-ghost use Rattle.wire_out.specs.Writing.{cause_byte, coded, coded_record};
+ghost use Rattle.wire_out.specs.Writing.{coded, coded_record};
 
 use crate::output::Output;
 use layout::field::Field;
 use layout::write::write_message;
-use market::record::{Cause, Record};
+use market::record::Record;
 use market::refusal::Refusal;
-
-fn cause_byte(cause: Cause) -> u8
-    ensures { result ≡ cause_byte cause }
-{
-    match cause {
-        Cause::FaKI => 1,
-        Cause::FaK => 2,
-        Cause::End => 3,
-    }
-}
 
 fn write_record(told: &Record, buf: &mut [u8]) -> Result<usize, Refusal>
     ensures value { (result, buf.new) ≡ writing (coded_record told.now) buf.old }
@@ -62,7 +52,7 @@ fn write_record(told: &Record, buf: &mut [u8]) -> Result<usize, Refusal>
                 Field::Time(time),
                 Field::Number(number),
                 Field::Number(displayed),
-                Field::Byte(cause_byte(cause)),
+                Field::Byte(cause.into()),
             ];
             write_message(22, &fields, &[], buf)
         }

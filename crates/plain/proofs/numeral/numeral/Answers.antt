@@ -9,25 +9,25 @@ pub loop-byte-preserved : goal.loop-byte-preserved
 loop-byte-preserved c =
     let word = c.args.word.now in
     let i = c.loop-byte.byte-index in
-    let d = digit-yes (get_or word i 0) c.in-Some.digit c.in-Some.ensures in
+    let d = digit-yes (get_or word i 0) c.in_ok-digit.field-0 c.in_ok-digit.ensures in
     let more = value-more word i c.loop-byte-test.true in
     (digits_more word i c.loop-byte-test.true c.loop-byte.invariant.0 d.0, omega arith, omega arith)
 
-pub returns-in_default : goal.returns-in_default
-returns-in_default c =
+pub returns-in_err-digit-clause-value : goal.returns-in_err-digit-clause-value
+returns-in_err-digit-clause-value c =
     let word = c.args.word.now in
     let i = c.loop-byte.byte-index in
-    no_digit word i c.loop-byte-test.true c.args.most (digit-no (get_or word i 0) c.in_default.ensures)
+    c.from_residual.ensures ∙ no_digit word i c.loop-byte-test.true c.args.most (digit-no (get_or word i 0) c.in_err-digit.ensures)
 
-pub returns-then-from-n : goal.returns-then-from-n
-returns-then-from-n c =
+pub returns-then-from-n-clause-value : goal.returns-then-from-n-clause-value
+returns-then-from-n-clause-value c =
     let word = c.args.word.now in
     let i = c.loop-byte.byte-index in
-    let d = digit-yes (get_or word i 0) c.in-Some.digit c.in-Some.ensures in
+    let d = digit-yes (get_or word i 0) c.in_ok-digit.field-0 c.in_ok-digit.ensures in
     too_large word (i + 1) c.args.most (omega (arith, value-more word i c.loop-byte-test.true))
 
-pub returns : goal.returns
-returns c =
+pub returns-clause-value : goal.returns-clause-value
+returns-clause-value c =
     let word = c.args.word.now in
     let all = take_all c.loop-byte.byte-index word c.loop-byte-test.false in
     let n = c.loop-byte.invariant.1 ∙ ap value all in

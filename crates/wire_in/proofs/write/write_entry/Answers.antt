@@ -9,7 +9,8 @@ use Rattle.layout.specs.Fields.{in_bytes}
 use Rattle.layout.specs.Frames.{sending}
 use Rattle.layout.specs.declared.field.Field.TheVariants.{Byte, Number, Price, Time}
 use Rattle.wire_in.specs.Messages.{entry}
-use Rattle.wire_in.specs.Writing.{side_byte, type_byte, at_zero, end_number, writing_call}
+use Rattle.market.specs.Codes.{side_byte, type_byte}
+use Rattle.wire_in.specs.Writing.{at_zero, end_number, writing_call}
 use Rattle.wire_in.proofs.write.write_entry.Goals as goal
 
 end_is : (end : Option ℕ) (n : ℕ) → Ok n ≡ end_number end → (at_zero end ≡ false) × (n ≡ unwrap_or end 0)
@@ -49,6 +50,6 @@ returns c =
     let end = end_is order.end c.in_ok-end.end c.in_ok-end.ensures in
     record {
       value = same order c.args.reference.now c.args.buf.now c.if-reference-gt16.false _ _ _ _
-          c.side_byte.ensures c.type_byte.ensures (to_z-of_z w32 order.price fits) end.1 end.0 c.write_message.ensures.value;
+          c.into.ensures c.into-2.ensures (to_z-of_z w32 order.price fits) end.1 end.0 c.write_message.ensures.value;
       bound = c.write_message.ensures.bound;
     }

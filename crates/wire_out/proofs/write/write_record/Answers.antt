@@ -58,6 +58,6 @@ returns-in-Removal c =
     let bytes : ℕ → List ℕ = λ b. message 22 (in_bytes (Time r.time ∷ Number r.number ∷ Number r.displayed ∷ Byte b ∷ [])) in
     record {
       value = at c.args.buf.now r.is
-          (c.write_message-in-Removal.ensures.value ∙ ap (λ (b : ℕ). writing (bytes b) c.args.buf.now) c.cause_byte.ensures);
+          (c.write_message-in-Removal.ensures.value ∙ ap (λ (b : ℕ). writing (bytes b) c.args.buf.now) c.into.ensures);
       bound = c.write_message-in-Removal.ensures.bound;
     }
