@@ -4,7 +4,7 @@ use line::entry::Entry;
 use line::lines::{Line, LineFault};
 use market::rank::{BidRank, Class, EndTime, OfOrder, Rank, Standing};
 use std::alloc::Global;
-use std::io;
+use std::{fmt, io, iter};
 
 /// The quotes by number, from 1; their ranks in a line that keeps its row in order and in a heap; and their end times.
 #[derive(Drop)]
@@ -30,11 +30,29 @@ fn rank_of(quote: &Quote, number: u32) -> BidRank {
     }
 }
 
-fn fault_text(fault: LineFault) -> &'static str {
-    match fault {
-        LineFault::Held => "it is queued already",
-        LineFault::Full => "the queue is full",
-        LineFault::NotHeld => "it is not queued",
+/// Why a bid is not queued, or an order cannot be cancelled.
+#[derive(Clone, Copy)]
+enum BidError {
+    TooMany,
+    EndPast,
+    Line(LineFault),
+}
+
+impl From<LineFault> for BidError {
+    fn from(fault: LineFault) -> BidError {
+        BidError::Line(fault)
+    }
+}
+
+impl fmt::Display for BidError {
+    fn fmt<W: fmt::Write>(&self, f: &mut fmt::Formatter<W>) -> fmt::Result {
+        f.write_str(match self {
+            BidError::TooMany => "too many orders",
+            BidError::EndPast => "its end is not after the time",
+            BidError::Line(LineFault::Held) => "it is queued already",
+            BidError::Line(LineFault::Full) => "the queue is full",
+            BidError::Line(LineFault::NotHeld) => "it is not queued",
+        })
     }
 }
 
@@ -50,17 +68,26 @@ impl<O: Line<BidRank> + Drop, H: Line<BidRank> + Drop, E: Line<EndTime> + Drop> 
     }
 
     fn quote(&self, number: u32) -> Option<Quote> {
-        if number == 0 {
-            return None;
-        }
-        self.quotes.get(number as usize - 1).copied()
+        let place = (number as usize).checked_sub(1)?;
+        self.quotes.get(place).copied()
     }
 
-    fn is_past(&self, end: Option<u64>) -> bool {
-        match end {
-            Some(end) => end <= self.time,
-            None => false,
+    /// Puts a bid into the lines, under the next number, which is answered.
+    fn queue(&mut self, quote: &Quote) -> Result<u32, BidError> {
+        if self.quotes.len() >= 1_000_000 {
+            return Err(BidError::TooMany);
         }
+        if quote.end.is_some_and(|end| end <= self.time) {
+            return Err(BidError::EndPast);
+        }
+        let number = self.quotes.len() as u32 + 1;
+        let rank = rank_of(quote, number);
+        self.sorted.put(rank)?;
+        let _ = self.heaped.put(rank);
+        if let Some(end) = quote.end {
+            let _ = self.ends.put(EndTime { end, number });
+        }
+        Ok(number)
     }
 
     /// Queues a bid under the next number.
@@ -71,51 +98,34 @@ impl<O: Line<BidRank> + Drop, H: Line<BidRank> + Drop, E: Line<EndTime> + Drop> 
             size,
             end,
         } = quote;
-        if self.quotes.len() >= 1_000_000 {
-            return Ok(println!(rt; "trader {trader}'s bid is refused: too many orders")?);
-        }
-        if self.is_past(end) {
-            return Ok(println!(rt;
-                "trader {trader}'s bid is refused: its end is not after the time"
-            )?);
-        }
-        let number = self.quotes.len() as u32 + 1;
-        let rank = rank_of(&quote, number);
-        if let Err(fault) = self.sorted.put(rank) {
-            let why = fault_text(fault);
-            return Ok(println!(rt; "trader {trader}'s bid is refused: {why}")?);
-        }
-        let _ = self.heaped.put(rank);
+        let number = match self.queue(&quote) {
+            Ok(number) => number,
+            Err(why) => return Ok(println!(rt; "trader {trader}'s bid is refused: {why}")?),
+        };
         self.quotes.push(quote)?;
         println!(rt; "order {number}: trader {trader} bids {price} for {size}")?;
         if let Some(end) = end {
-            let _ = self.ends.put(EndTime { end, number });
             println!(rt; "    it ends at {end}")?;
         }
         Ok(())
     }
 
     /// Lets an order go from every line.
-    fn drop_order(&mut self, number: u32) -> Result<Quote, LineFault> {
-        let Some(quote) = self.quote(number) else {
-            return Err(LineFault::NotHeld);
-        };
+    fn drop_order(&mut self, number: u32) -> Result<(), BidError> {
+        let quote = self.quote(number).ok_or(LineFault::NotHeld)?;
         let rank = rank_of(&quote, number);
         self.sorted.take(rank)?;
         let _ = self.heaped.take(rank);
         if let Some(end) = quote.end {
             let _ = self.ends.take(EndTime { end, number });
         }
-        Ok(quote)
+        Ok(())
     }
 
     pub fn cancel(&mut self, rt: &HostRuntime, number: u32) -> anyhow::Result<()> {
         match self.drop_order(number) {
-            Ok(_) => println!(rt; "order {number} is cancelled")?,
-            Err(fault) => {
-                let why = fault_text(fault);
-                println!(rt; "order {number} cannot be cancelled: {why}")?
-            }
+            Ok(()) => println!(rt; "order {number} is cancelled")?,
+            Err(why) => println!(rt; "order {number} cannot be cancelled: {why}")?,
         }
         Ok(())
     }
@@ -129,14 +139,10 @@ impl<O: Line<BidRank> + Drop, H: Line<BidRank> + Drop, E: Line<EndTime> + Drop> 
         self.time = time;
         println!(rt; "time {time}")?;
         for _ in 0..self.ends.count() {
-            let Some(next) = self.ends.first() else {
-                return Ok(());
+            let Some(EndTime { end, number }) = self.ends.first().filter(|next| next.end <= time)
+            else {
+                break;
             };
-            if next.end > time {
-                return Ok(());
-            }
-            let number = next.number;
-            let end = next.end;
             let _ = self.drop_order(number);
             println!(rt; "    order {number} ends at {end}")?;
         }
@@ -147,15 +153,15 @@ impl<O: Line<BidRank> + Drop, H: Line<BidRank> + Drop, E: Line<EndTime> + Drop> 
     pub fn show(&self, rt: &HostRuntime) -> anyhow::Result<()> {
         let count = self.sorted.count();
         println!(rt; "the queue, {count} in all:")?;
-        let mut at = self.sorted.first();
-        let mut twin = self.heaped.first();
-        for place in 0..count {
-            let (Some(rank), Some(other)) = (at, twin) else {
-                return Ok(println!(rt; "    the lines differ")?);
-            };
+        let sorted = iter::successors(self.sorted.first(), |rank| self.sorted.next(*rank));
+        let heaped = iter::successors(self.heaped.first(), |rank| self.heaped.next(*rank));
+        let mut shown = 0;
+        for (place, (rank, other)) in (1..=count).zip(sorted.zip(heaped)) {
             self.show_one(rt, place, &rank, &other)?;
-            at = self.sorted.next(rank);
-            twin = self.heaped.next(other);
+            shown = place;
+        }
+        if shown < count {
+            println!(rt; "    the lines differ")?;
         }
         Ok(())
     }
@@ -180,7 +186,6 @@ impl<O: Line<BidRank> + Drop, H: Line<BidRank> + Drop, E: Line<EndTime> + Drop> 
             size,
             ..
         } = quote;
-        let place = place.saturating_add(1);
         Ok(println!(rt; "    {place}. order {number} of trader {trader}: {price} for {size}")?)
     }
 }

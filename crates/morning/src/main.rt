@@ -31,14 +31,13 @@ fn no_rank() -> BidRank {
 fn obey<O: Line<BidRank> + Drop, H: Line<BidRank> + Drop, E: Line<EndTime> + Drop>(
     rt: &HostRuntime,
     bids: &mut Bids<O, H, E>,
-    step: &Step,
+    step: Step,
 ) -> anyhow::Result<()> {
     match step {
-        Step::Bid(quote) => bids.enter(rt, *quote),
-        Step::Cancel(number) => bids.cancel(rt, *number),
-        Step::Time(time) => bids.reach(rt, *time),
+        Step::Bid(quote) => bids.enter(rt, quote),
+        Step::Cancel(number) => bids.cancel(rt, number),
+        Step::Time(time) => bids.reach(rt, time),
         Step::Queue => bids.show(rt),
-        Step::Nothing => Ok(()),
     }
 }
 
@@ -52,11 +51,10 @@ fn run(rt: &HostRuntime) -> anyhow::Result<()> {
         HeapRow::new(&mut heaped),
         HeapRow::new(&mut ending),
     );
-    let mut place: u64 = 0;
-    for text in rt.lines(rt.alloc()) {
-        place = place.saturating_add(1);
+    for (place, text) in (1..=u64::MAX).zip(rt.lines(rt.alloc())) {
         match step_of(text?.as_str()) {
-            Ok(step) => obey(rt, &mut bids, &step)?,
+            Ok(Some(step)) => obey(rt, &mut bids, step)?,
+            Ok(None) => {}
             Err(fault) => println!(rt; "line {place} is passed over: {fault}")?,
         }
     }

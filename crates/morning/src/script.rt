@@ -1,5 +1,7 @@
 //! The lines of a morning, as text.
-use std::str::SplitWhitespace;
+use std::fmt;
+use std::ops::RangeInclusive;
+use std::str::{FromStr, SplitWhitespace};
 
 /// A bid as it is written.
 #[derive(Clone, Copy)]
@@ -10,82 +12,90 @@ pub struct Quote {
     pub end: Option<u64>,
 }
 
+/// What a line asks for.
 #[derive(Clone, Copy)]
 pub enum Step {
     Bid(Quote),
     Cancel(u32),
     Time(u64),
     Queue,
-    /// An empty line or a comment.
-    Nothing,
 }
 
-fn price_of(word: Option<&str>) -> Result<i32, &'static str> {
-    match word.unwrap_or("").parse::<i32>() {
-        Ok(price) if price >= -1_000_000 && price <= 1_000_000 => Ok(price),
-        _ => Err("the price is no number from -1000000 to 1000000"),
+/// What is wrong with a line.
+#[derive(Clone, Copy)]
+pub enum LineError {
+    Trader,
+    Price,
+    Size,
+    End,
+    AfterSize,
+    Number,
+    Time,
+    Beginning,
+    More,
+}
+
+impl fmt::Display for LineError {
+    fn fmt<W: fmt::Write>(&self, f: &mut fmt::Formatter<W>) -> fmt::Result {
+        f.write_str(match self {
+            LineError::Trader => "the trader is no number from 1 to 128",
+            LineError::Price => "the price is no number from -1000000 to 1000000",
+            LineError::Size => "the size is no number above 0",
+            LineError::End => "the end time is no number",
+            LineError::AfterSize => "after the size only 'until' and a time may stand",
+            LineError::Number => "the order's number is none",
+            LineError::Time => "the time is no number",
+            LineError::Beginning => "it begins with none of bid, cancel, time, queue and #",
+            LineError::More => "there is more on it than was expected",
+        })
     }
 }
 
-fn number_of(word: Option<&str>, fault: &'static str) -> Result<u64, &'static str> {
-    match word.unwrap_or("").parse::<u64>() {
-        Ok(number) => Ok(number),
-        Err(_) => Err(fault),
-    }
+/// The number that a word writes, if it is among those that are allowed.
+fn number_in<T: FromStr<Err: Drop> + PartialOrd + Drop>(
+    allowed: RangeInclusive<T>,
+    word: Option<&str>,
+) -> Option<T> {
+    word?.parse().ok().filter(|number| allowed.contains(number))
 }
 
-fn small_number_of(word: Option<&str>, fault: &'static str) -> Result<u32, &'static str> {
-    match word.unwrap_or("").parse::<u32>() {
-        Ok(number) if number > 0 => Ok(number),
-        _ => Err(fault),
-    }
-}
-
-fn trader_of(word: Option<&str>) -> Result<u8, &'static str> {
-    match word.unwrap_or("").parse::<u8>() {
-        Ok(trader) if trader >= 1 && trader <= 128 => Ok(trader),
-        _ => Err("the trader is no number from 1 to 128"),
-    }
-}
-
-fn end_of(words: &mut SplitWhitespace) -> Result<Option<u64>, &'static str> {
+fn end_of(words: &mut SplitWhitespace) -> Result<Option<u64>, LineError> {
     match words.next() {
         None => Ok(None),
-        Some("until") => Ok(Some(number_of(words.next(), "the end time is no number")?)),
-        Some(_) => Err("after the size only 'until' and a time may stand"),
+        Some("until") => Ok(Some(number_in(0..=u64::MAX, words.next()).ok_or(LineError::End)?)),
+        Some(_) => Err(LineError::AfterSize),
     }
 }
 
-fn quote_of(words: &mut SplitWhitespace) -> Result<Step, &'static str> {
-    let trader = trader_of(words.next())?;
-    let price = price_of(words.next())?;
-    let size = small_number_of(words.next(), "the size is no number above 0")?;
+fn quote_of(words: &mut SplitWhitespace) -> Result<Quote, LineError> {
+    let trader = number_in(1..=128, words.next()).ok_or(LineError::Trader)?;
+    let price = number_in(-1_000_000..=1_000_000, words.next()).ok_or(LineError::Price)?;
+    let size = number_in(1..=u32::MAX, words.next()).ok_or(LineError::Size)?;
     let end = end_of(words)?;
-    Ok(Step::Bid(Quote {
+    Ok(Quote {
         trader,
         price,
         size,
         end,
-    }))
+    })
 }
 
-/// What a line asks for, or what is wrong with it.
-pub fn step_of(text: &str) -> Result<Step, &'static str> {
+/// What a line asks for, if it is not empty and no comment; or what is wrong with it.
+pub fn step_of(text: &str) -> Result<Option<Step>, LineError> {
     let mut words = text.split_whitespace();
     let step = match words.next() {
-        None => return Ok(Step::Nothing),
-        Some(word) if word.starts_with('#') => return Ok(Step::Nothing),
-        Some("bid") => quote_of(&mut words)?,
-        Some("cancel") => Step::Cancel(small_number_of(
-            words.next(),
-            "the order's number is none",
-        )?),
-        Some("time") => Step::Time(number_of(words.next(), "the time is no number")?),
+        None => return Ok(None),
+        Some(word) if word.starts_with('#') => return Ok(None),
+        Some("bid") => Step::Bid(quote_of(&mut words)?),
+        Some("cancel") => {
+            Step::Cancel(number_in(1..=u32::MAX, words.next()).ok_or(LineError::Number)?)
+        }
+        Some("time") => Step::Time(number_in(0..=u64::MAX, words.next()).ok_or(LineError::Time)?),
         Some("queue") => Step::Queue,
-        Some(_) => return Err("it begins with none of bid, cancel, time, queue and #"),
+        Some(_) => return Err(LineError::Beginning),
     };
     match words.next() {
-        None => Ok(step),
-        Some(_) => Err("there is more on it than was expected"),
+        None => Ok(Some(step)),
+        Some(_) => Err(LineError::More),
     }
 }
