@@ -30,14 +30,6 @@ fn rank_of(quote: &Quote, number: u32) -> BidRank {
     }
 }
 
-fn fault_text(fault: LineFault) -> &'static str {
-    match fault {
-        LineFault::Held => "it is queued already",
-        LineFault::Full => "the queue is full",
-        LineFault::NotHeld => "it is not queued",
-    }
-}
-
 impl<O: Line<BidRank> + Drop, H: Line<BidRank> + Drop, E: Line<EndTime> + Drop> Bids<O, H, E> {
     pub fn new(heap: Global, sorted: O, heaped: H, ends: E) -> Bids<O, H, E> {
         Bids {
@@ -82,8 +74,7 @@ impl<O: Line<BidRank> + Drop, H: Line<BidRank> + Drop, E: Line<EndTime> + Drop> 
         let number = self.quotes.len() as u32 + 1;
         let rank = rank_of(&quote, number);
         if let Err(fault) = self.sorted.put(rank) {
-            let why = fault_text(fault);
-            return Ok(println!(rt; "trader {trader}'s bid is refused: {why}")?);
+            return Ok(println!(rt; "trader {trader}'s bid is refused: {fault}")?);
         }
         let _ = self.heaped.put(rank);
         self.quotes.push(quote)?;
@@ -113,8 +104,7 @@ impl<O: Line<BidRank> + Drop, H: Line<BidRank> + Drop, E: Line<EndTime> + Drop> 
         match self.drop_order(number) {
             Ok(_) => println!(rt; "order {number} is cancelled")?,
             Err(fault) => {
-                let why = fault_text(fault);
-                println!(rt; "order {number} cannot be cancelled: {why}")?
+                println!(rt; "order {number} cannot be cancelled: {fault}")?
             }
         }
         Ok(())
