@@ -1,9 +1,7 @@
 -- A book that is opened has no orders, and its lines are empty. Assumes nothing.
-use Rattle.std.proofs.Common.{◌≡◌, ℕ, ◌≤◌, Bool, List, [], length, Option, sym, refl, ap, ◌∙◌, subst, arith}
+use Rattle.std.proofs.Common.{◌≡◌, ℕ, [], sym, ap, ◌∙◌}
 use Rattle.line.specs.declared.lines.Line.{Ghosts}
-use Rattle.market.specs.Ranks.{bid_ahead, offer_ahead, end_ahead}
 use Rattle.market.specs.declared.settings.Settings.{Settings}
-use Rattle.market.specs.declared.order.Order.{Order}
 use Rattle.market.specs.declared.rank.BidRank.{BidRank}
 use Rattle.market.specs.declared.rank.OfferRank.{OfferRank}
 use Rattle.market.specs.declared.rank.EndTime.{EndTime}
@@ -14,7 +12,7 @@ use Rattle.table.specs.Items.{items}
 use Rattle.board.specs.Memory.{board_of}
 use Rattle.board.specs.EndTimes.{end_time}
 use Rattle.queues.specs.Entries.{bid_entry, offer_entry}
-use Rattle.queues.specs.Lists.{Shows as Shown, Lists}
+use Rattle.queues.proofs.Kept.{lists-none}
 use Rattle.memory.specs.declared.memory.Memory.{Memory}
 use Rattle.memory.specs.Shown.{opening_of, Shows}
 use Rattle.calls.specs.Openings.{opening_with}
@@ -23,13 +21,6 @@ use Rattle.calls.specs.Openings.{opening_with}
 pub record Emptied {L X : Type 0} (g : Ghosts L X) (l l' : L) : Type 0 where
   pub entries : g.entries l' ≡ []
   pub room : g.room l' ≡ g.room l
-
-lists-none : {L X : Type 0} (ahead : X → X → Bool) (g : Ghosts L X) (l l' : L) (entry : Order → Option X) → Emptied g l l' → Lists ahead g l' [] entry
-lists-none {L} {X} ahead g l l' entry e =
-    let none : length (g.entries l') ≡ 0 = ap (λ (xs : List X). length xs) e.entries in
-    let fits : length (g.entries l') ≤ g.room l' = omega arith in
-    let nothing : Shown ahead [] [] entry = record { ordered = refl; each = λ o x i. absurd i; only = λ x i. absurd i } in
-    record { fits = fits; shows = subst (λ (xs : List X). Shown ahead xs [] entry) (sym e.entries) nothing }
 
 module _ {B O E : Type 0} (bl : Ghosts B BidRank) (ol : Ghosts O OfferRank) (el : Ghosts E EndTime) where
   opening-is : (m : Memory B O E) (s : Settings) (x : B) (y : O) (z : E) → m.settings ≡ s → bl.room m.bids ≡ bl.room x →
@@ -51,8 +42,8 @@ module _ {B O E : Type 0} (bl : Ghosts B BidRank) (ol : Ghosts O OfferRank) (el 
         board = board;
         reserves = sym reserves;
         queued = record {
-          bids = lists-none bid_ahead bl x m.bids (bid_entry opened.board) bids;
-          offers = lists-none offer_ahead ol y m.offers (offer_entry opened.board) offers;
-          ends = lists-none end_ahead el z m.ends end_time ends;
+          bids = lists-none bl m.bids (bid_entry opened.board) bids.entries;
+          offers = lists-none ol m.offers (offer_entry opened.board) offers.entries;
+          ends = lists-none el m.ends end_time ends.entries;
         };
       }

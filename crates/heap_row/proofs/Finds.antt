@@ -1,15 +1,14 @@
 -- What stands in a heap, and what is first in it.
-use Rattle.std.proofs.Common.{◌≡◌, ℕ, zero, suc, ◌+◌, ◌<◌, ◌≤◌, Bool, true, false, cond, not, ◌||◌, ◌⊎◌, inl, inr, ⊎_elim, nat_lt, List, [], ◌∷◌, length, get_or, take, is_some, Some, None, Option, sym, refl, ap, ◌∙◌, arith}
+use Rattle.std.proofs.Common.{◌≡◌, ℕ, zero, suc, ◌+◌, ◌<◌, ◌≤◌, Bool, true, false, cond, not, ◌||◌, ◌⊎◌, inl, inr, ⊎_elim, nat_lt, List, [], ◌∷◌, length, get_or, is_some, Some, None, Option, sym, refl, ap, ◌∙◌, arith}
 use Rattle.std.specs.List.{position, position_or_len}
 use Rattle.std.proofs.lemmas.List.Quantifiers.{position-Some}
 use Rattle.std.proofs.ByRecursion.{all_from_every}
 use Rattle.std.proofs.lemmas.Bool.{both_ways, cases_Bool, cases_lt, lt-ltb}
 use Rattle.line.specs.Order.{Order}
-use Rattle.line.specs.Held.{holds, behind, first_of, with_entry}
+use Rattle.line.specs.Held.{holds, first_of}
 use Rattle.heap_row.specs.Heap.{Heap, Found, parent, sorted}
-use Rattle.heap_row.proofs.Removes.{sorted_more}
 use Rattle.heap_row.proofs.Rises.{not-trans}
-use Rattle.heap_row.proofs.Sorts.{same-is, first-with, all-sorted, holds-with, holds-sorted, holds_at}
+use Rattle.heap_row.proofs.Sorts.{same-is, first-with, all-sorted, holds-sorted, holds_at}
 
 -- a search that answers none has not found it
 pub not_found : {X : Type 0} (ahead : X → X → Bool) (e : X) (xs : List X) (r : Option ℕ) → is_some r ≡ false → Found ahead e xs r → holds ahead e (sorted ahead xs) ≡ false

@@ -4,7 +4,7 @@ use Rattle.std.proofs.lemmas.Bool.{cases_Bool, both_ways, cond-true, cond-false,
 use Rattle.std.proofs.lemmas.List.{get_or-set_other, length-set}
 use Rattle.std.specs.List.{AllByRecursion as All}
 use Rattle.line.specs.Order.{Order}
-use Rattle.line.specs.Held.{holds, with_entry, without, behind, Ordered, first_of}
+use Rattle.line.specs.Held.{holds, with_entry, without, Ordered, first_of}
 use Rattle.line.proofs.Lists.{not_back, length-with, holds-none}
 use Rattle.line.proofs.Chains.{Chain, all-with, chain-from-ordered, ordered-from-chain}
 use Rattle.heap_row.specs.Heap.{sorted}

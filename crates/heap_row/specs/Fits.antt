@@ -1,5 +1,5 @@
 -- No more entries than room.
-use Rattle.std.specs.Prelude.{◌≡◌, ℕ, ◌≤◌, Bool, List, [], ◌∷◌, length, refl}
+use Rattle.std.specs.Prelude.{◌≡◌, ◌≤◌, Bool, List, [], ◌∷◌, length, refl}
 use Rattle.std.proofs.Common.{arith}
 use Rattle.line.specs.Rows.{held, room, held-fits}
 use Rattle.line.specs.declared.row.Row.{Row}

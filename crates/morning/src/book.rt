@@ -46,13 +46,11 @@ impl From<LineFault> for BidError {
 
 impl fmt::Display for BidError {
     fn fmt<W: fmt::Write>(&self, f: &mut fmt::Formatter<W>) -> fmt::Result {
-        f.write_str(match self {
-            BidError::TooMany => "too many orders",
-            BidError::EndPast => "its end is not after the time",
-            BidError::Line(LineFault::Held) => "it is queued already",
-            BidError::Line(LineFault::Full) => "the queue is full",
-            BidError::Line(LineFault::NotHeld) => "it is not queued",
-        })
+        match self {
+            BidError::TooMany => f.write_str("too many orders"),
+            BidError::EndPast => f.write_str("its end is not after the time"),
+            BidError::Line(fault) => write!(f, "{fault}"),
+        }
     }
 }
 

@@ -4,7 +4,6 @@ pub mod Heads
 pub mod Held
 pub mod Kept
 pub mod Shown
-pub mod Sides
 pub mod Sized
 pub mod Totals
 pub mod Walked

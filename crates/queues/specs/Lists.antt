@@ -1,5 +1,5 @@
 -- A line that lists orders. Assumes nothing.
-use Rattle.std.specs.Prelude.{◌≡◌, ℕ, ◌≤◌, Bool, List, length, Some, Option}
+use Rattle.std.specs.Prelude.{◌≡◌, ℕ, Bool, List, Some, Option}
 use Rattle.line.specs.Held.{Ordered}
 use Rattle.line.specs.declared.lines.Line.{Ghosts}
 use Rattle.market.specs.declared.order.Order.{Order}
@@ -13,10 +13,9 @@ pub record Shows {X : Type 0} (ahead : X → X → Bool) (xs : List X) (os : Lis
   pub each : (o : Order) (x : X) → In o os → entry o ≡ Some x → In x xs
   pub only : (x : X) → In x xs → (o : Order) × In o os × (entry o ≡ Some x)
 
--- the line holds no more than its room, and what it holds are the orders' entries
-pub record Lists {L X : Type 0} (ahead : X → X → Bool) (g : Ghosts L X) (l : L) (os : List Order) (entry : Order → Option X) : Type 0 where
-  pub fits : length (g.entries l) ≤ g.room l
-  pub shows : Shows ahead (g.entries l) os entry
+-- what the line holds are the orders' entries
+abbrev pub Lists : {L X : Type 0} → (X → X → Bool) → Ghosts L X → L → List Order → (Order → Option X) → Type 0
+Lists ahead g l os entry = Shows ahead (g.entries l) os entry
 
 -- the line is in step with a board: the numbers of its orders ascend, below some number, and the line lists them
 pub record InStep {L X : Type 0} (ahead : X → X → Bool) (entry : Board → Order → Option X) (g : Ghosts L X) (l : L) (b : Board) : Type 0 where

@@ -11,4 +11,4 @@ returns g c w =
     let wished = c.args.wished in
     c.ending.ensures ∙ ap (λ (os : List Order). ending_by wished os c.first.result) c.items.ensures.value ∙
     ap (ending_by wished b.orders) c.first.ensures ∙
-    ends-first 1 w.below b.orders w.rising wished (g.L.Line.entries c.args.line.now) w.lists.shows
+    ends-first 1 w.below b.orders w.rising wished (g.L.Line.entries c.args.line.now) w.lists

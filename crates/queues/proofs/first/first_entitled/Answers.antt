@@ -28,4 +28,4 @@ returns g c w meets =
     ap (λ (e : Entitlement). walk (choice (allowed e) number b.orders) xs) is ∙
     walk_first s (g.T.Listed.listing b) (λ o. g.met.T.Listed.has b o ∙ g.met.T.Ranked.sided o) number (g.met.T.Listed.named b) g.T.Entry.ahead b (g.met.T.Ranked.agrees b)
     1 w.below b.orders w.rising (allowed told) (entitled b s) (λ o h. same_true s o.side (and_parts (on s o) (entitled_in b.phase b o) h).0)
-    (λ o h. entitles b s o (eq-same s o.side h)) xs w.lists.shows
+    (λ o h. entitles b s o (eq-same s o.side h)) xs w.lists

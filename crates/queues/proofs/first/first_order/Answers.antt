@@ -12,4 +12,4 @@ returns g c w =
     c.order_of.ensures ∙ ap (λ (os : List Order). order_of number os c.first.result) c.items.ensures.value ∙
     ap (order_of number b.orders) c.first.ensures ∙
     head_first g.T.Ranked.side (g.T.Listed.listing b) (λ o. g.met.T.Listed.has b o ∙ g.met.T.Ranked.sided o) number (g.met.T.Listed.named b) g.T.Entry.ahead b
-    (g.met.T.Ranked.agrees b) 1 w.below b.orders w.rising (g.L.Line.entries c.args.line.now) w.lists.shows
+    (g.met.T.Ranked.agrees b) 1 w.below b.orders w.rising (g.L.Line.entries c.args.line.now) w.lists

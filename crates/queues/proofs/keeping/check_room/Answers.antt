@@ -13,5 +13,5 @@ returns g c =
       answer = r ∙ ap (room_answer (g.L.Line.room l)) c.count.ensures;
       listed = λ b os m a w.
           r ∙ ap (room_answer (g.L.Line.room l)) (c.count.ensures ∙
-          lists_length t g.T.OfOrder.number g.T.Listed.mine g.T.Listed.listing g.met.T.Listed.has g.met.T.Listed.named g.L.Line l b 1 m os a w);
+          lists_length t g.T.OfOrder.number g.T.Listed.mine g.T.Listed.listing g.met.T.Listed.has g.met.T.Listed.named g.L.Line g.met.L.Line.fits l b 1 m os a w);
     }

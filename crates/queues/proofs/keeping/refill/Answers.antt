@@ -31,7 +31,7 @@ returns g c =
     let inv = c.loop-order.invariant in
     let os = c.items-orders.result.now in
     let r = c.clear.ensures.room in
-    refills t g.T.OfOrder.number g.T.Listed.mine g.T.Listed.listing g.met.T.Listed.has g.met.T.Listed.named g.L.Line c.args.line.now c.loop-order.line b
+    refills t g.T.OfOrder.number g.T.Listed.mine g.T.Listed.listing g.met.T.Listed.has g.met.T.Listed.named g.L.Line g.met.L.Line.fits c.args.line.now c.loop-order.line b
     (inv.0 ∙ r)
     (filled-all g.T.Entry.ahead e (g.L.Line.room c.clear.new.self) os c.loop-order.order-index (g.L.Line.entries c.loop-order.line) _ c.loop-order-test.false inv.1 ∙
     ap (λ n. filled g.T.Entry.ahead n (each e os) []) r ∙

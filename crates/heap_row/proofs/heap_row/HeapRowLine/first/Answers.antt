@@ -1,4 +1,4 @@
-use Rattle.std.proofs.Common.{◌≡◌, ap, ◌∙◌, rules}
+use Rattle.std.proofs.Common.{◌≡◌, ◌∙◌, rules}
 use Rattle.line.specs.Order.{Order}
 use Rattle.line.specs.Held.{first_of}
 use Rattle.line.specs.Rows.{held}

@@ -9,7 +9,6 @@ use Rattle.heap_row.specs.Fits.{length-sorted}
 use Rattle.heap_row.specs.Row.{entries_of}
 use Rattle.heap_row.proofs.Finds.{not_found}
 use Rattle.heap_row.proofs.Same.{same-row}
-use Rattle.heap_row.proofs.heap_row.HeapRowLine.put.Given as given
 use Rattle.heap_row.proofs.heap_row.HeapRowLine.put.Goals as goal
 
 pub invariant_of-self : goal.invariant_of-self

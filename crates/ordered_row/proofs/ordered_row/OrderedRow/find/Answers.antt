@@ -1,4 +1,4 @@
-use Rattle.std.proofs.Common.{◌≡◌, true, false, length, sym, ap, ◌∙◌, subst, arith, rules}
+use Rattle.std.proofs.Common.{rules}
 use Rattle.line.specs.Order.{Order}
 use Rattle.ordered_row.specs.Row.{entries_of}
 use Rattle.ordered_row.proofs.Finds.{stands, belongs}
