@@ -25,11 +25,10 @@ fn compose(rt: &HostRuntime, number: u64, line: &[u8]) -> io::Result<()> {
 }
 
 fn main(rt: HostRuntime) -> io::Result<()> {
-    let mut number: u64 = 0;
-    for line in BufReader::new(rt.alloc(), rt.stdin())?.split(rt.alloc(), b'\n') {
+    let lines = BufReader::new(rt.alloc(), rt.stdin())?.split(rt.alloc(), b'\n');
+    for (i, line) in lines.enumerate() {
         let line = line?;
-        number = number.wrapping_add(1);
-        compose(&rt, number, line.as_slice())?;
+        compose(&rt, (i as u64).wrapping_add(1), line.as_slice())?;
     }
     Ok(())
 }

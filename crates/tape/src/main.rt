@@ -5,7 +5,7 @@
 use intake::hold;
 use std::io;
 use std::io::BufReader;
-use transcript::show::Told;
+use transcript::show::InWords;
 use wire::read::read_message;
 
 fn main(rt: HostRuntime) -> io::Result<()> {
@@ -19,9 +19,9 @@ fn main(rt: HostRuntime) -> io::Result<()> {
         }
         let (message, taken) = read_message(held.as_slice());
         match message {
-            Ok(message) => println!(rt; "{}", Told::Message(message))?,
+            Ok(message) => println!(rt; "{}", InWords(message))?,
             Err(refusal) => {
-                return println!(rt; "stopped at byte {at}, {}", Told::Refusal(refusal));
+                return println!(rt; "stopped at byte {at}, {}", InWords(refusal));
             }
         }
         at = at.wrapping_add(taken as u64);

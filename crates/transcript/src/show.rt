@@ -1,7 +1,6 @@
 //! Messages in plain words. A call is shown as the line that makes it.
 use market::call::{OrderCancel, OrderChange, OrderEntry};
-use market::order::{OrderType, Side};
-use market::record::{Cause, Fill, Record};
+use market::record::{Fill, Record};
 use market::refusal::Refusal;
 use std::fmt;
 use std::fmt::Write;
@@ -9,6 +8,11 @@ use wire::message::Message;
 use wire_in::message::CallMessage;
 use wire_out::output::Output;
 
+/// A message, a part of one or a refusal, to be told in words.
+#[derive(Clone, Copy)]
+pub struct InWords<T>(pub T);
+
+// By the number, since a reply brings no more of its refusal.
 /// What a refusal's number means.
 fn meaning(number: u8) -> &'static str {
     match number {
@@ -35,156 +39,111 @@ fn meaning(number: u8) -> &'static str {
     }
 }
 
-fn side_name(side: Side) -> &'static str {
-    match side {
-        Side::Bid => " bid",
-        Side::Offer => " offer",
-    }
-}
-
-fn type_name(kind: OrderType) -> &'static str {
-    match kind {
-        OrderType::FaS => " FaS",
-        OrderType::FaK => " FaK",
-        OrderType::FaKI => " FaKI",
-    }
-}
-
-fn cause_name(cause: Cause) -> &'static str {
-    match cause {
-        Cause::FaKI => " cause FaKI",
-        Cause::FaK => " cause FaK",
-        Cause::End => " cause end",
-    }
-}
-
-/// Whether bytes can stand in a line as one word.
-fn is_word(bytes: &[u8]) -> bool {
-    for byte in bytes {
-        if *byte < 33 || 126 < *byte {
-            return false;
+impl fmt::Display for InWords<OrderEntry> {
+    fn fmt<W: fmt::Write>(&self, f: &mut fmt::Formatter<W>) -> fmt::Result {
+        let InWords(order) = self;
+        write!(
+            f,
+            "entry trader {} {} {} price {} displayed {} reserve {} end ",
+            order.trader, order.side, order.kind, order.price, order.displayed, order.reserve
+        )?;
+        match order.end {
+            Some(end) => write!(f, "{end}"),
+            None => f.write_str("none"),
         }
     }
-    true
 }
 
-/// A field behind its name.
-fn show_number<W: fmt::Write>(name: &str, n: u64, f: &mut fmt::Formatter<W>) -> fmt::Result {
-    write!(f, " {name} {n}")
-}
-
-fn show_price<W: fmt::Write>(price: i32, f: &mut fmt::Formatter<W>) -> fmt::Result {
-    write!(f, " price {price}")
-}
-
-/// A reference as a word, or else by the numbers of its bytes; an empty one is left out.
-fn show_reference<W: fmt::Write>(reference: &[u8], f: &mut fmt::Formatter<W>) -> fmt::Result {
-    if reference.is_empty() {
-        return Ok(());
-    }
-    if is_word(reference) {
-        f.write_str(" reference ")?;
-        for byte in reference {
-            f.write_char(char::from(*byte))?;
-        }
-        return Ok(());
-    }
-    f.write_str(" reference in hex")?;
-    for byte in reference {
-        let n = *byte;
-        write!(f, " {n:02x}")?;
-    }
-    Ok(())
-}
-
-fn show_entry<W: fmt::Write>(order: &OrderEntry, f: &mut fmt::Formatter<W>) -> fmt::Result {
-    f.write_str("entry")?;
-    show_number("trader", u64::from(order.trader), f)?;
-    f.write_str(side_name(order.side))?;
-    f.write_str(type_name(order.kind))?;
-    show_price(order.price, f)?;
-    show_number("displayed", u64::from(order.displayed), f)?;
-    show_number("reserve", u64::from(order.reserve), f)?;
-    match order.end {
-        Some(end) => show_number("end", end, f),
-        None => f.write_str(" end none"),
+impl fmt::Display for InWords<OrderChange> {
+    fn fmt<W: fmt::Write>(&self, f: &mut fmt::Formatter<W>) -> fmt::Result {
+        let InWords(change) = self;
+        write!(
+            f,
+            "change trader {} order {} price {} displayed {} reserve {}",
+            change.trader, change.number, change.price, change.displayed, change.reserve
+        )
     }
 }
 
-fn show_change<W: fmt::Write>(change: &OrderChange, f: &mut fmt::Formatter<W>) -> fmt::Result {
-    f.write_str("change")?;
-    show_number("trader", u64::from(change.trader), f)?;
-    show_number("order", u64::from(change.number), f)?;
-    show_price(change.price, f)?;
-    show_number("displayed", u64::from(change.displayed), f)?;
-    show_number("reserve", u64::from(change.reserve), f)
-}
-
-fn show_cancel<W: fmt::Write>(cancel: &OrderCancel, f: &mut fmt::Formatter<W>) -> fmt::Result {
-    f.write_str("cancel")?;
-    show_number("trader", u64::from(cancel.trader), f)?;
-    show_number("order", u64::from(cancel.number), f)
-}
-
-fn show_call<W: fmt::Write>(call: &CallMessage, f: &mut fmt::Formatter<W>) -> fmt::Result {
-    match *call {
-        CallMessage::Entry { order, reference } => {
-            show_entry(&order, f)?;
-            show_reference(reference, f)
-        }
-        CallMessage::Change(change) => show_change(&change, f),
-        CallMessage::Cancel(cancel) => show_cancel(&cancel, f),
-        CallMessage::Tick { time } => {
-            f.write_str("tick")?;
-            show_number("time", time, f)
-        }
-        CallMessage::Draw => f.write_str("draw"),
+impl fmt::Display for InWords<OrderCancel> {
+    fn fmt<W: fmt::Write>(&self, f: &mut fmt::Formatter<W>) -> fmt::Result {
+        let InWords(cancel) = self;
+        write!(f, "cancel trader {} order {}", cancel.trader, cancel.number)
     }
 }
 
-/// What every record begins with: its time and its kind.
-fn show_kind<W: fmt::Write>(time: u64, kind: &str, f: &mut fmt::Formatter<W>) -> fmt::Result {
-    write!(f, "time {time} {kind}")
+/// The reference of an entry behind a blank, as a word or else by the numbers of its bytes; an empty one is left out.
+#[derive(Clone, Copy)]
+struct Reference<'a>(&'a [u8]);
+
+impl fmt::Display for Reference<'_> {
+    fn fmt<W: fmt::Write>(&self, f: &mut fmt::Formatter<W>) -> fmt::Result {
+        let Reference(bytes) = *self;
+        if bytes.is_empty() {
+            return Ok(());
+        }
+        if bytes.iter().all(u8::is_ascii_graphic) {
+            f.write_str(" reference ")?;
+            for byte in bytes {
+                f.write_char(char::from(*byte))?;
+            }
+            return Ok(());
+        }
+        f.write_str(" reference in hex")?;
+        for byte in bytes {
+            write!(f, " {byte:02x}")?;
+        }
+        Ok(())
+    }
 }
 
-fn show_fill<W: fmt::Write>(fill: &Fill, f: &mut fmt::Formatter<W>) -> fmt::Result {
-    show_price(fill.price, f)?;
-    show_number("size", u64::from(fill.size), f)?;
-    show_number("bid", u64::from(fill.bid), f)?;
-    show_number("left", u64::from(fill.bidleft), f)?;
-    show_number("offer", u64::from(fill.offer), f)?;
-    show_number("left", u64::from(fill.offerleft), f)
+impl fmt::Display for InWords<CallMessage<'_>> {
+    fn fmt<W: fmt::Write>(&self, f: &mut fmt::Formatter<W>) -> fmt::Result {
+        match self.0 {
+            CallMessage::Entry { order, reference } => {
+                write!(f, "{}{}", InWords(order), Reference(reference))
+            }
+            CallMessage::Change(change) => write!(f, "{}", InWords(change)),
+            CallMessage::Cancel(cancel) => write!(f, "{}", InWords(cancel)),
+            CallMessage::Tick { time } => write!(f, "tick time {time}"),
+            CallMessage::Draw => f.write_str("draw"),
+        }
+    }
 }
 
-fn show_record<W: fmt::Write>(told: &Record, f: &mut fmt::Formatter<W>) -> fmt::Result {
-    match *told {
-        Record::Quiet { time } => show_kind(time, "quiet", f),
-        Record::Fill { time, fill } => {
-            show_kind(time, "fill", f)?;
-            show_fill(&fill, f)
-        }
-        Record::Session {
-            time,
-            price,
-            passive,
-        } => {
-            show_kind(time, "session", f)?;
-            show_price(price, f)?;
-            show_number("passive", u64::from(passive), f)
-        }
-        Record::Rolling { time } => show_kind(time, "Rolling", f),
-        Record::Fbs { time } => show_kind(time, "FBS", f),
-        Record::Open { time } => show_kind(time, "Open", f),
-        Record::Removal {
-            time,
-            number,
-            displayed,
-            cause,
-        } => {
-            show_kind(time, "removal", f)?;
-            show_number("order", u64::from(number), f)?;
-            show_number("displayed", u64::from(displayed), f)?;
-            f.write_str(cause_name(cause))
+impl fmt::Display for InWords<Fill> {
+    fn fmt<W: fmt::Write>(&self, f: &mut fmt::Formatter<W>) -> fmt::Result {
+        let InWords(fill) = self;
+        write!(
+            f,
+            "price {} size {} bid {} left {} offer {} left {}",
+            fill.price, fill.size, fill.bid, fill.bidleft, fill.offer, fill.offerleft
+        )
+    }
+}
+
+impl fmt::Display for InWords<Record> {
+    fn fmt<W: fmt::Write>(&self, f: &mut fmt::Formatter<W>) -> fmt::Result {
+        match self.0 {
+            Record::Quiet { time } => write!(f, "time {time} quiet"),
+            Record::Fill { time, fill } => write!(f, "time {time} fill {}", InWords(fill)),
+            Record::Session {
+                time,
+                price,
+                passive,
+            } => write!(f, "time {time} session price {price} passive {passive}"),
+            Record::Rolling { time } => write!(f, "time {time} Rolling"),
+            Record::Fbs { time } => write!(f, "time {time} FBS"),
+            Record::Open { time } => write!(f, "time {time} Open"),
+            Record::Removal {
+                time,
+                number,
+                displayed,
+                cause,
+            } => write!(
+                f,
+                "time {time} removal order {number} displayed {displayed} cause {cause}"
+            ),
         }
     }
 }
@@ -192,49 +151,45 @@ fn show_record<W: fmt::Write>(told: &Record, f: &mut fmt::Formatter<W>) -> fmt::
 fn show_reply<W: fmt::Write>(refusal: u8, order: u32, f: &mut fmt::Formatter<W>) -> fmt::Result {
     match refusal {
         0 => f.write_str("reply accepted")?,
-        _ => {
-            f.write_str("reply")?;
-            show_number("refused", u64::from(refusal), f)?;
-        }
+        _ => write!(f, "reply refused {refusal}")?,
     }
     if order != 0 {
-        show_number("order", u64::from(order), f)?;
+        write!(f, " order {order}")?;
     }
-    if refusal == 0 {
-        return Ok(());
+    if refusal != 0 {
+        write!(f, ": {}", meaning(refusal))?;
     }
-    f.write_str(": ")?;
-    f.write_str(meaning(refusal))
+    Ok(())
+}
+
+impl fmt::Display for InWords<Output> {
+    fn fmt<W: fmt::Write>(&self, f: &mut fmt::Formatter<W>) -> fmt::Result {
+        match self.0 {
+            Output::Record(told) => write!(f, "{}", InWords(told)),
+            Output::Reply { refusal, order } => show_reply(refusal, order, f),
+        }
+    }
+}
+
+impl fmt::Display for InWords<Message<'_>> {
+    fn fmt<W: fmt::Write>(&self, f: &mut fmt::Formatter<W>) -> fmt::Result {
+        match self.0 {
+            Message::Call(call) => write!(f, "{}", InWords(call)),
+            Message::Output(output) => write!(f, "{}", InWords(output)),
+        }
+    }
 }
 
 /// A refusal by its number, its meaning and its byte.
-fn show_refusal<W: fmt::Write>(refusal: Refusal, f: &mut fmt::Formatter<W>) -> fmt::Result {
-    let number = refusal.number();
-    let why = meaning(number);
-    write!(f, "refused {number}: {why}")?;
-    match refusal.byte() {
-        Some(byte) if number == 2 => write!(f, " (bytes present: {byte})"),
-        Some(byte) => write!(f, " (byte {byte} of the message)"),
-        None => Ok(()),
-    }
-}
-
-/// What can be told in words.
-#[derive(Clone, Copy)]
-pub enum Told<'a> {
-    Message(Message<'a>),
-    Refusal(Refusal),
-}
-
-impl fmt::Display for Told<'_> {
+impl fmt::Display for InWords<Refusal> {
     fn fmt<W: fmt::Write>(&self, f: &mut fmt::Formatter<W>) -> fmt::Result {
-        match *self {
-            Told::Message(Message::Call(call)) => show_call(&call, f),
-            Told::Message(Message::Output(Output::Record(told))) => show_record(&told, f),
-            Told::Message(Message::Output(Output::Reply { refusal, order })) => {
-                show_reply(refusal, order, f)
-            }
-            Told::Refusal(refusal) => show_refusal(refusal, f),
+        let InWords(refusal) = *self;
+        let number = refusal.number();
+        write!(f, "refused {number}: {}", meaning(number))?;
+        match refusal.byte() {
+            Some(byte) if number == 2 => write!(f, " (bytes present: {byte})"),
+            Some(byte) => write!(f, " (byte {byte} of the message)"),
+            None => Ok(()),
         }
     }
 }

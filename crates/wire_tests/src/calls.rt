@@ -1,40 +1,17 @@
 //! Calls.
-use market::refusal::Layer;
+use crate::both;
 use std::process::Abort;
 use std::test::Fail;
 use wire_in::message::CallMessage;
 use wire_in::read::read;
 use wire_in::write::write_call;
 
-/// The input is refused by the message layer with this number and this byte, and no byte is taken.
 fn refused(rt: &impl Abort, input: &[u8], number: u8, byte: usize) -> Result<(), Fail> {
-    let (answer, taken) = read(input);
-    assert!(rt; taken == 0);
-    match answer {
-        Ok(_) => Err(Fail::new("it was read")),
-        Err(refusal) => {
-            assert!(rt; refusal.number() == number);
-            assert!(rt; refusal.layer() == Layer::Message);
-            assert!(rt; refusal.byte() == Some(byte));
-            Ok(())
-        }
-    }
+    both::refused(rt, read(input), number, byte)
 }
 
-/// The bytes are one call, and writing that call gives them again and leaves what stands behind them.
 fn exact(rt: &impl Abort, bytes: &[u8]) -> Result<(), Fail> {
-    let (answer, taken) = read(bytes);
-    assert!(rt; taken == bytes.len());
-    let Ok(call) = answer else {
-        return Err(Fail::new("it was refused"));
-    };
-    let mut buf = [238u8; 64];
-    let Ok(size) = write_call(&call, &mut buf) else {
-        return Err(Fail::new("it was not written"));
-    };
-    assert!(rt; &buf[0..size] == bytes);
-    assert!(rt; buf[63] == 238);
-    Ok(())
+    both::exact(rt, bytes, read(bytes), write_call)
 }
 
 #[test]

@@ -1,4 +1,5 @@
 //! Records and replies.
+use crate::both;
 use market::answer::Accepted;
 use market::record::{Cause, Record};
 use market::refusal::{BookFault, Refusal};
@@ -8,43 +9,12 @@ use wire_out::output::Output;
 use wire_out::read::read_output;
 use wire_out::write::write;
 
-/// The input is refused with this number and this byte, and no byte is taken.
 fn refused(rt: &impl Abort, input: &[u8], number: u8, byte: usize) -> Result<(), Fail> {
-    let (answer, taken) = read_output(input);
-    assert!(rt; taken == 0);
-    match answer {
-        Ok(_) => Err(Fail::new("it was read")),
-        Err(refusal) => {
-            assert!(rt; refusal.number() == number);
-            assert!(rt; refusal.byte() == Some(byte));
-            Ok(())
-        }
-    }
+    both::refused(rt, read_output(input), number, byte)
 }
 
-/// The bytes are one message, and writing it gives them again and leaves what stands behind them; a byte less of room is too little.
 fn exact(rt: &impl Abort, bytes: &[u8]) -> Result<(), Fail> {
-    let (answer, taken) = read_output(bytes);
-    assert!(rt; taken == bytes.len());
-    let Ok(output) = answer else {
-        return Err(Fail::new("it was refused"));
-    };
-    let mut buf = [238u8; 64];
-    let Ok(size) = write(&output, &mut buf) else {
-        return Err(Fail::new("it was not written"));
-    };
-    assert!(rt; &buf[0..size] == bytes);
-    assert!(rt; buf[63] == 238);
-    assert!(rt; 0 < size);
-    let mut little = [238u8; 64];
-    match write(&output, &mut little[0..size - 1]) {
-        Ok(_) => Err(Fail::new("it was written")),
-        Err(refusal) => {
-            assert!(rt; refusal.number() == 19);
-            assert!(rt; little[0] == 238);
-            Ok(())
-        }
-    }
+    both::exact(rt, bytes, read_output(bytes), write)
 }
 
 #[test]
