@@ -2,7 +2,6 @@
 ghost use Rattle.std.specs.Prelude.{◌≡◌, Some};
 ghost use Rattle.rules.specs.Board.{Opening, State, meet};
 ghost use Rattle.rules.specs.Draws.{decided, incoming_of, passive_for, opening, pairing, earlier, coming};
-ghost use Rattle.table.specs.Items.{items};
 ghost use Rattle.invariants.specs.Sound.{Sound};
 ghost use Rattle.memory.specs.Shown.{Shows};
 ghost use Rattle.drawing.specs.Due.{meant, meant_of};
@@ -39,10 +38,10 @@ pub enum Due {
 
 /// The incoming order, if it is live.
 fn incoming_order(board: &Board) -> Option<Order>
-    ensures { result ≡ incoming_of board.now.counters.incoming (items board.now.orders) }
+    ensures { result ≡ incoming_of board.now.counters.incoming board.now.orders.items }
 {
     let number = board.counters.incoming?;
-    numbered(board.orders.items(), number)
+    numbered(&board.orders, number)
 }
 
 /// The first order of the side that the trigger meets.
