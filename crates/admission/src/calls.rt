@@ -1,27 +1,18 @@
 //! Whether a call is accepted: its tests in their order, up to the first that it fails.
 ghost use Rattle.std.specs.Prelude.{◌≡◌};
-ghost use Rattle.line.specs.declared.lines.LineFault.TheVariants.{Full};
 ghost use Rattle.rules.specs.Board.{Opening};
 ghost use Rattle.rules.specs.Refusing.{is_size, line_full, owned, entry_refusal, change_refusal, cancel_refusal, tick_refusal};
 ghost use Rattle.board.specs.Memory.{board_of};
-ghost use Rattle.admission.specs.Checks.{refused_if, Answers, Finds};
+ghost use Rattle.admission.specs.Checks.{Answers, Finds};
 
 use crate::checks::*;
 use board::board::Board;
-use board::orders::owned_by;
-use board::session::entry_price;
+use board::seat::Seat;
 use line::lines::LineFault;
 use market::call::{OrderCancel, OrderChange, OrderEntry};
 use market::order::Order;
 use market::refusal::{BookFault, Refusal};
 use market::settings::Settings;
-
-/// The side's line, and the end line if it is needed, must have room.
-fn check_lines(full: bool) -> Result<(), LineFault>
-    ensures { result ≡ refused_if full Full }
-{
-    if full { Err(LineFault::Full) } else { Ok(()) }
-}
 
 /// An entry, told whether a line that it needs is full.
 pub fn check_entry(
@@ -37,11 +28,15 @@ pub fn check_entry(
     check_price(order.price)?;
     check_sizes(settings, order.displayed, order.reserve)?;
     check_end(board, order.end)?;
-    let price = entry_price(board, order.side, order.price);
-    check_own(board, order.trader, order.side, price)?;
+    let price = board.entry_price(order.side, order.price);
+    let seat = Seat {
+        trader: order.trader,
+        side: order.side,
+    };
+    check_own(board, seat, price)?;
     check_writes(board)?;
     check_orders(board)?;
-    check_lines(full)?;
+    refused_if(full, LineFault::Full)?;
     Ok(())
 }
 
@@ -55,11 +50,15 @@ pub fn check_change(
 {
     check_quiet(board)?;
     check_trader(change.trader)?;
-    let order = owned_by(board, change.trader, change.number).ok_or(BookFault::Order)?;
+    let order = board.owned_by(change.trader, change.number).ok_or(BookFault::Order)?;
     check_price(change.price)?;
     check_sizes(settings, change.displayed, change.reserve)?;
     check_better(board, order.side, change.price)?;
-    check_own(board, change.trader, order.side, change.price)?;
+    let seat = Seat {
+        trader: change.trader,
+        side: order.side,
+    };
+    check_own(board, seat, change.price)?;
     check_writes(board)?;
     Ok(order)
 }
@@ -70,7 +69,7 @@ pub fn check_cancel(board: &Board, cancel: &OrderCancel) -> Result<Order, Refusa
 {
     check_quiet(board)?;
     check_trader(cancel.trader)?;
-    let order = owned_by(board, cancel.trader, cancel.number).ok_or(BookFault::Order)?;
+    let order = board.owned_by(cancel.trader, cancel.number).ok_or(BookFault::Order)?;
     Ok(order)
 }
 

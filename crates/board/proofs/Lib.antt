@@ -1,5 +1,5 @@
 pub mod Boards
 pub mod Entitles
-pub mod Positions
+pub mod Placed
 pub mod Scans
 pub mod Tables

@@ -2,3 +2,6 @@ pub mod EndTimes
 pub mod Entitlements
 pub mod Memory
 pub mod Positions
+pub mod Rows
+pub mod Seats
+pub mod Struck

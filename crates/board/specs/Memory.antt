@@ -1,6 +1,5 @@
 -- What the board in memory shows. Assumes nothing.
 use Rattle.std.specs.Prelude.{◌≡◌, ℕ, ◌+◌, ◌^◌, ◌<◌, List}
-use Rattle.table.specs.Items.{items}
 use Rattle.market.specs.declared.order.Order.{Order}
 use Rattle.rules.specs.Base.{each}
 use Rattle.rules.specs.Board.{Board as Rules}
@@ -10,7 +9,7 @@ use Rattle.board.specs.declared.board.Board.{Board}
 abbrev pub board_of : Board → Rules
 board_of m =
     record {
-      orders = items m.orders;
+      orders = m.orders.items;
       phase = m.phase;
       clock = m.clock;
       counters = m.counters;

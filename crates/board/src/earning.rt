@@ -4,9 +4,9 @@ ghost use Rattle.rules.specs.Base.{contest, find, first};
 ghost use Rattle.rules.specs.Board.{of_trader};
 ghost use Rattle.rules.specs.Privileges.{in_part, filled_sooner, as_carrier, second_priority, first_priority, earned};
 
-use crate::places;
-use crate::prices::is_of;
-use market::order::{Order, Side};
+use crate::seat::Seat;
+use crate::seats::Seats;
+use market::order::Order;
 use market::state::{Carrier, Completion, Priority, Privilege};
 
 /// Whether the first had its first fill in the session before the second.
@@ -30,43 +30,40 @@ fn filled_first(order: Order, behind: Option<Order>) -> Option<Order>
     }
 }
 
-/// Whether the order is the trader's, on the side, and was filled in part in the session.
-fn is_filled_of(order: &Order, trader: u8, side: Side) -> bool
-    ensures { result ≡ (of_trader trader side order.now && in_part order.now) }
-{
-    is_of(order, trader, side) && order.first.is_some()
-}
-
 /// Of the trader's orders on the side that were filled in part in the session, the one that was filled first.
-fn first_filled(orders: &[Order], trader: u8, side: Side) -> Option<Order>
-    ensures { result ≡ first (λ o. of_trader trader side o && in_part o) filled_sooner orders.now }
+fn first_filled(orders: &[Order], seat: Seat) -> Option<Order>
+    ensures { result ≡ first (λ o. of_trader seat.trader seat.side o && in_part o) filled_sooner orders.now }
 {
-    let mut found = None;
-    for i in (0..orders.len()).rev() {
-        if is_filled_of(&orders[i], trader, side) {
-            found = filled_first(orders[i], found);
-        }
-    }
-    found
+    orders
+        .iter()
+        .copied()
+        .rev()
+        .filter(|order| seat.owns(order) && order.first.is_some())
+        .fold(None, |behind, order| filled_first(order, behind))
 }
 
 /// Whether the order is the trader's, on the side, and has this number or a later one.
-fn is_since(order: &Order, trader: u8, side: Side, number: u32) -> bool
-    ensures { result ≡ (of_trader trader side order.now && nat_le number order.now.number) }
+fn is_since(order: &Order, seat: Seat, number: u32) -> bool
+    ensures { result ≡ (of_trader seat.trader seat.side order.now && nat_le number order.now.number) }
 {
-    is_of(order, trader, side) && number <= order.number
+    seat.owns(order) && number <= order.number
 }
 
-/// Who carries a Priority 2: the lowest-numbered of the trader's orders on the side from this number on.
-fn carrier_since(orders: &[Order], trader: u8, side: Side, number: u32) -> Carrier
-    ensures { result ≡ as_carrier (find (λ o. of_trader trader side o && nat_le number o.number) orders.now) }
+/// The lowest-numbered of the trader's orders on the side from this number on.
+fn first_since(orders: &[Order], seat: Seat, number: u32) -> Option<Order>
+    ensures { result ≡ find (λ o. of_trader seat.trader seat.side o && nat_le number o.number) orders.now }
 {
-    for order in orders {
-        if is_since(order, trader, side, number) {
-            return Carrier::Order(order.number);
-        }
-    }
-    Carrier::Free
+    orders
+        .iter()
+        .find(|order| is_since(order, seat, number))
+        .copied()
+}
+
+/// Who carries a Priority 2: this order, or nobody yet.
+fn carrier_of(order: Option<Order>) -> Carrier
+    ensures { result ≡ as_carrier order }
+{
+    order.map_or(Carrier::Free, |order| Carrier::Order(order.number))
 }
 
 /// The Priority 1 of an order that was filled in part: the fill earned it, and the order carries it.
@@ -85,36 +82,28 @@ fn first_priority(order: &Order) -> Option<Privilege>
 fn second_priority(
     completion: Option<Completion>,
     orders: &[Order],
-    trader: u8,
-    side: Side,
+    seat: Seat,
 ) -> Option<Privilege>
-    ensures { result ≡ second_priority completion trader side orders.now }
+    ensures { result ≡ second_priority completion seat.trader seat.side orders.now }
 {
     let done = completion?;
-    let carrier = carrier_since(orders, trader, side, done.number);
     Some(Privilege {
         priority: Priority::Second,
         earned: done.fill,
-        carrier,
+        carrier: carrier_of(first_since(orders, seat, done.number)),
     })
 }
 
 /// What the trader has earned on the side.
 pub(crate) fn earned_by(
     orders: &[Order],
-    completions: &[Option<Completion>],
-    trader: u8,
-    side: Side,
+    completions: &Seats<Completion>,
+    seat: Seat,
 ) -> Option<Privilege>
-    ensures { result ≡ earned orders.now completions.now trader side }
+    ensures { result ≡ earned orders.now completions.now seat.trader seat.side }
 {
-    match first_filled(orders, trader, side) {
+    match first_filled(orders, seat) {
         Some(order) => first_priority(&order),
-        None => second_priority(
-            places::find(completions, trader, side),
-            orders,
-            trader,
-            side,
-        ),
+        None => second_priority(completions.at(seat), orders, seat),
     }
 }

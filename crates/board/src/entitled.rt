@@ -7,7 +7,6 @@ ghost use Rattle.board.specs.Entitlements.{entitlement_of, allowed};
 use crate::board::Board;
 use crate::entitlement::Entitlement;
 use crate::orders::is_prior_left;
-use crate::prices::{same_price, same_side};
 use market::order::Order;
 use market::state::{Phase, Session};
 
@@ -15,17 +14,14 @@ use market::state::{Phase, Session};
 fn is_best(price: i32, best: Option<i32>) -> bool
     ensures { result ≡ is_at price best }
 {
-    match best {
-        Some(best) => same_price(price, best),
-        None => false,
-    }
+    best == Some(price)
 }
 
 /// Whether an order of the aggressive side may trade in Timed.
 fn is_aggressive(session: &Session, order: &Order) -> bool
     ensures { result ≡ aggressively session.now.aggressor session.now order.now }
 {
-    let at_price = same_price(order.price, session.price);
+    let at_price = order.price == session.price;
     match session.aggressor {
         Some(owner) => at_price && order.trader == owner,
         None => at_price,
@@ -40,7 +36,7 @@ impl Entitlement {
         Entitlement {
             phase: board.phase,
             session: board.session,
-            priors: is_prior_left(board.orders.items()),
+            priors: is_prior_left(&board.orders),
             meets,
             best,
         }
@@ -51,8 +47,8 @@ impl Entitlement {
         ensures { result ≡ allowed self.now order.now }
     {
         let session = &self.session;
-        let passive = same_side(order.side, session.passive);
-        let at_price = same_price(order.price, session.price);
+        let passive = order.side == session.passive;
+        let at_price = order.price == session.price;
         match self.phase {
             Phase::Open => false,
             Phase::Timed if passive && self.priors => order.prior,

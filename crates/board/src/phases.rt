@@ -8,18 +8,12 @@ use market::state::Phase;
 pub fn in_session(phase: Phase) -> bool
     ensures { result ≡ in_session phase }
 {
-    match phase {
-        Phase::Timed | Phase::Rolling => true,
-        Phase::Open | Phase::Fbs => false,
-    }
+    matches!(phase, Phase::Timed | Phase::Rolling)
 }
 
 /// Whether the FBS Period runs.
 pub fn in_fbs(phase: Phase) -> bool
     ensures { result ≡ is_fbs phase }
 {
-    match phase {
-        Phase::Fbs => true,
-        Phase::Open | Phase::Timed | Phase::Rolling => false,
-    }
+    matches!(phase, Phase::Fbs)
 }

@@ -1,17 +1,20 @@
 //! The privileges of the FBS Period.
 ghost use Rattle.std.specs.Prelude.{◌≡◌};
+ghost use Rattle.market.specs.declared.state.Privilege.{Privilege};
 ghost use Rattle.rules.specs.Board.{lookup, empty};
 ghost use Rattle.rules.specs.Privileges.{taken, freed, lost, adjust, granted};
 
 use crate::earning::earned_by;
-use crate::places;
-use market::order::{Order, Side};
+use crate::seat::Seat;
+use crate::seats::Seats;
+use market::order::Order;
 use market::state::{Carrier, Completion, Priority, Privilege};
+use std::array;
 
-/// What every trader has on each side, two places for each trader from 0 to 128.
-#[derive(Clone, Copy)]
+/// What every trader has on each side.
+#[derive(Drop)]
 pub struct Privileges {
-    pub slots: [Option<Privilege>; 258],
+    pub slots: Seats<Privilege>,
 }
 
 /// The privilege, carried by this order from now on if no order has carried it.
@@ -64,60 +67,61 @@ impl Privileges {
     pub fn new() -> Privileges
         ensures { result.slots ≡ empty }
     {
-        Privileges { slots: [None; 258] }
+        Privileges {
+            slots: Seats::new(),
+        }
     }
 
     /// What the trader has on the side.
-    pub fn of(&self, trader: u8, side: Side) -> Option<Privilege>
-        ensures { result ≡ lookup self.now.slots trader side }
+    pub fn of(&self, seat: Seat) -> Option<Privilege>
+        ensures { result ≡ lookup self.now.slots seat.trader seat.side }
     {
-        places::find(&self.slots, trader, side)
+        self.slots.at(seat)
+    }
+
+    /// What the trader has on the side, if he has anything, is changed.
+    fn adjust<F: FnOnce(Privilege) -> Privilege>(&mut self, seat: Seat, change: F)
+        requires { F.IsAlwaysCallable change }
+        ensures { (h : Privilege → Privilege) → ((p q : Privilege) → F.post change p q → q ≡ h p) → self.new.slots ≡ adjust h seat.trader seat.side self.old.slots }
+    {
+        if let Some(privilege) = self.of(seat) {
+            self.slots.put(seat, change(privilege));
+        }
     }
 
     /// The order takes up what its trader has on the side, if no order has carried that.
-    pub fn take(&mut self, trader: u8, side: Side, number: u32)
-        ensures { self.new.slots ≡ adjust (taken number) trader side self.old.slots }
+    pub fn take(&mut self, seat: Seat, number: u32)
+        ensures { self.new.slots ≡ adjust (taken number) seat.trader seat.side self.old.slots }
     {
-        if let Some(privilege) = self.of(trader, side) {
-            places::write(&mut self.slots, trader, side, taken_by(privilege, number));
-        }
+        self.adjust(seat, |privilege| taken_by(privilege, number));
     }
 
     /// The order was cancelled or removed, and carries nothing any more.
-    pub fn free(&mut self, trader: u8, side: Side, number: u32)
-        ensures { self.new.slots ≡ adjust (freed number) trader side self.old.slots }
+    pub fn free(&mut self, seat: Seat, number: u32)
+        ensures { self.new.slots ≡ adjust (freed number) seat.trader seat.side self.old.slots }
     {
-        if let Some(privilege) = self.of(trader, side) {
-            places::write(&mut self.slots, trader, side, freed_from(privilege, number));
-        }
+        self.adjust(seat, |privilege| freed_from(privilege, number));
     }
 
     /// The order was filled whole or re-priced better than the session's price, which ends what it carries.
-    pub fn lose(&mut self, trader: u8, side: Side, number: u32)
-        ensures { self.new.slots ≡ adjust (lost number) trader side self.old.slots }
+    pub fn lose(&mut self, seat: Seat, number: u32)
+        ensures { self.new.slots ≡ adjust (lost number) seat.trader seat.side self.old.slots }
     {
-        if let Some(privilege) = self.of(trader, side) {
-            places::write(&mut self.slots, trader, side, lost_by(privilege, number));
-        }
+        self.adjust(seat, |privilege| lost_by(privilege, number));
     }
 
     /// All privileges end.
     pub fn clear(&mut self)
         ensures { self.new.slots ≡ empty }
     {
-        self.slots = [None; 258];
+        self.slots = Seats::new();
     }
 
     /// Settles what every trader has earned in the session.
-    pub fn grant(&mut self, orders: &[Order], completions: &[Option<Completion>; 258])
+    pub fn grant(&mut self, orders: &[Order], completions: &Seats<Completion>)
         ensures { self.new.slots ≡ granted orders.now completions.now }
     {
-        let mut slots = [None; 258];
-        for trader in 0..=128 {
-            let at = 2 * trader as usize;
-            slots[at] = earned_by(orders, completions, trader, Side::Bid);
-            slots[at + 1] = earned_by(orders, completions, trader, Side::Offer);
-        }
-        self.slots = slots;
+        let earned = |number| earned_by(orders, completions, Seat::numbered(number));
+        self.slots = Seats::filled(array::from_fn(earned));
     }
 }

@@ -6,6 +6,7 @@ ghost use Rattle.board.specs.Memory.{board_of};
 ghost use Rattle.board.specs.EndTimes.{end_time};
 
 use crate::board::Board;
+use crate::seat::Seat;
 use market::order::{Order, Side};
 use market::rank::{BidRank, Class, EndTime, OfferRank, Rank, Standing};
 use market::state::{Carrier, Phase, Priority, Privilege, Session};
@@ -71,7 +72,7 @@ pub fn standing_of(board: &Board, order: &Order) -> Standing
             class: Class::Last,
             place: order.stamp,
         },
-        Phase::Fbs => by_carrier(board.privileges.of(order.trader, order.side), order),
+        Phase::Fbs => by_carrier(board.privileges.of(Seat::of(order)), order),
     }
 }
 

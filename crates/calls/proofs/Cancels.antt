@@ -17,7 +17,6 @@ use Rattle.rules.specs.Refusing.{owned, cancel_refusal}
 use Rattle.rules.specs.Calls.{cancelled_board, cancelled_state, step}
 use Rattle.invariants.specs.Sound.{Sound}
 use Rattle.invariants.proofs.Passes.{owned_in}
-use Rattle.table.specs.Items.{items}
 use Rattle.board.specs.Memory.{board_of, Reserved}
 use Rattle.effects.specs.Effects.{Cancels}
 use Rattle.memory.specs.declared.memory.Memory.{Memory}
@@ -41,7 +40,7 @@ module _ {B O E : Type 0} (bl : Ghosts B BidRank) (ol : Ghosts O OfferRank) (el 
   -- the board and the reserves let the order go, then the lines
   cancelled : (m m₁ m' : Memory B O E) (k : Opening) (S : State) (o : Order) (old new : Entries) → Sound k S → Shows bl ol el m k S →
       In o S.board.orders → Untouched bl ol el m m₁ →
-      Cancels o (board_of m.board) (board_of m₁.board) (items m.reserves) (items m₁.reserves) →
+      Cancels o (board_of m.board) (board_of m₁.board) m.reserves.items m₁.reserves.items →
       old ≡ entries_of (board_of m.board) o → new ≡ no_entries → Relisted bl ol el m₁ m' old new →
       Shows bl ol el m' k (cancelled_state S (Some o))
   unfolding cancelled_board standing
@@ -49,18 +48,18 @@ module _ {B O E : Type 0} (bl : Ghosts B BidRank) (ol : Ghosts O OfferRank) (el 
       let b = S.board in
       let n = b.counters.number in
       let up = sound.row.rising in
-      let did = subst (λ (v : Board). Cancels o v (board_of m₁.board) (items m.reserves) (items m₁.reserves)) w.board done in
+      let did = subst (λ (v : Board). Cancels o v (board_of m₁.board) m.reserves.items m₁.reserves.items) w.board done in
       let is : board_of m₁.board ≡ cancelled_board b o = did.board 1 n up in
       shows-replaced bl ol el m m₁ m' k S (cancelled_state S (Some o)) o None old new n up w here tt tt refl
       (λ p i d. standing-unseen o.number (freed o.number) o.trader o.side b.phase b.session.buyer b.session.seller b.privileges p
       (freed-unseen o.number) d)
-      u is (subst (λ (v : Board). Reserved S.hidden v.orders (items m₁.reserves)) is (did.reserves 1 n S.hidden up w.reserves))
+      u is (subst (λ (v : Board). Reserved S.hidden v.orders m₁.reserves.items) is (did.reserves 1 n S.hidden up w.reserves))
       (e ∙ ap (λ (v : Board). entries_of v o) w.board) f made
 
   pub cancel-done : (m m₁ m' : Memory B O E) (k : Opening) (S : State) (c : OrderCancel) (o : Order) (old new : Entries) → Sound k S →
       (cancel_refusal (board_of m.board) c.trader c.number ≡ None) × (owned (board_of m.board) c.trader c.number ≡ Some o) →
       Shows bl ol el m k S → Untouched bl ol el m m₁ →
-      Cancels o (board_of m.board) (board_of m₁.board) (items m.reserves) (items m₁.reserves) →
+      Cancels o (board_of m.board) (board_of m₁.board) m.reserves.items m₁.reserves.items →
       old ≡ entries_of (board_of m.board) o → new ≡ no_entries → Relisted bl ol el m₁ m' old new →
       Replies bl ol el m' k (Ok Done) (step k S (Cancel c))
   unfolding step

@@ -21,7 +21,6 @@ use Rattle.rules.specs.Refusing.{is_size, owned, change_refusal}
 use Rattle.rules.specs.Calls.{takes_stamp, changed, lost_at, changed_board, changed_state, step}
 use Rattle.invariants.specs.Sound.{Sound}
 use Rattle.invariants.proofs.Passes.{owned_in}
-use Rattle.table.specs.Items.{items}
 use Rattle.board.specs.Memory.{board_of, Reserved}
 use Rattle.effects.specs.Effects.{Changes}
 use Rattle.memory.specs.declared.memory.Memory.{Memory}
@@ -64,7 +63,7 @@ module _ {B O E : Type 0} (bl : Ghosts B BidRank) (ol : Ghosts O OfferRank) (el 
   -- the board and the reserves are written anew, then the lines
   changed-shown : (m m₁ m' : Memory B O E) (k : Opening) (S : State) (c : OrderChange) (o o' : Order) (old new : Entries) → Sound k S →
       Shows bl ol el m k S → In o S.board.orders → Untouched bl ol el m m₁ →
-      Changes c o o' (board_of m.board) (board_of m₁.board) (items m.reserves) (items m₁.reserves) →
+      Changes c o o' (board_of m.board) (board_of m₁.board) m.reserves.items m₁.reserves.items →
       old ≡ entries_of (board_of m.board) o → new ≡ entries_of (board_of m₁.board) o' → Relisted bl ol el m₁ m' old new →
       Shows bl ol el m' k (changed_state S c (Some o))
   unfolding changed_board changed
@@ -72,11 +71,11 @@ module _ {B O E : Type 0} (bl : Ghosts B BidRank) (ol : Ghosts O OfferRank) (el 
       let b = S.board in
       let n = b.counters.number in
       let up = sound.row.rising in
-      let did = subst (λ (v : Board). Changes c o o' v (board_of m₁.board) (items m.reserves) (items m₁.reserves)) w.board done in
+      let did = subst (λ (v : Board). Changes c o o' v (board_of m₁.board) m.reserves.items m₁.reserves.items) w.board done in
       let is : board_of m₁.board ≡ changed_board b c o = did.board 1 n (bounded k S sound) up in
       shows-replaced bl ol el m m₁ m' k S (changed_state S c (Some o)) o (Some (changed c (takes_stamp c o) b.counters.stamp o)) old new n up w here refl
       (refl, refl) refl (λ p i d. other-stands b c o p d) u is
-      (subst (λ (v : Board). Reserved (write o.number c.reserve S.hidden) v.orders (items m₁.reserves)) is
+      (subst (λ (v : Board). Reserved (write o.number c.reserve S.hidden) v.orders m₁.reserves.items) is
       (did.reserves 1 n S.hidden up w.reserves))
       (e ∙ ap (λ (v : Board). entries_of v o) w.board)
       (f ∙ ap (λ (v : Board). entries_of v o') is ∙ ap (λ (x : Order). entries_of (changed_board b c o) x) did.order) made
@@ -85,7 +84,7 @@ module _ {B O E : Type 0} (bl : Ghosts B BidRank) (ol : Ghosts O OfferRank) (el 
       ((j : Opening) → j.settings ≡ m.settings →
       (change_refusal j (board_of m.board) c (is_size j c.reserve) ≡ None) × (owned (board_of m.board) c.trader c.number ≡ Some o)) →
       Shows bl ol el m k S → Untouched bl ol el m m₁ →
-      Changes c o o' (board_of m.board) (board_of m₁.board) (items m.reserves) (items m₁.reserves) →
+      Changes c o o' (board_of m.board) (board_of m₁.board) m.reserves.items m₁.reserves.items →
       old ≡ entries_of (board_of m.board) o → new ≡ entries_of (board_of m₁.board) o' → Relisted bl ol el m₁ m' old new →
       Replies bl ol el m' k (Ok Done) (step k S (Change c))
   unfolding step

@@ -26,7 +26,6 @@ use Rattle.rules.proofs.Rows.{ascends-in}
 use Rattle.rules.proofs.Tests.{same_true}
 use Rattle.invariants.specs.Sound.{Sound}
 use Rattle.invariants.proofs.Passes.{EntryPasses, entry-passes}
-use Rattle.table.specs.Items.{items}
 use Rattle.board.specs.Memory.{board_of, Reserved}
 use Rattle.admission.specs.Checks.{refused_if}
 use Rattle.effects.specs.Effects.{Enters}
@@ -108,20 +107,20 @@ module _ {B O E : Type 0} (bl : Ghosts B BidRank) (ol : Ghosts O OfferRank) (el 
   -- the board and the reserves take the order, then the lines
   entered-shown : (m m₁ m' : Memory B O E) (k : Opening) (S : State) (e : OrderEntry) (o : Order) (new : Entries) → Sound k S → Shows bl ol el m k S →
       EntryPasses k S.board e → Untouched bl ol el m m₁ →
-      Enters e o (board_of m.board) (board_of m₁.board) (items m.reserves) (items m₁.reserves) →
+      Enters e o (board_of m.board) (board_of m₁.board) m.reserves.items m₁.reserves.items →
       new ≡ entries_of (board_of m₁.board) o → Enlisted bl ol el m₁ m' new → Shows bl ol el m' k (entered_state S e)
   unfolding entered_board entered
   entered-shown m m₁ m' k S e o new sound w passes u done f made =
       let b = S.board in
       let n = b.counters.number in
       let up = sound.row.rising in
-      let did = subst (λ (v : Board). Enters e o v (board_of m₁.board) (items m.reserves) (items m₁.reserves)) w.board done in
+      let did = subst (λ (v : Board). Enters e o v (board_of m₁.board) m.reserves.items m₁.reserves.items) w.board done in
       let is : board_of m₁.board ≡ entered_board b e = did.board (bounded k S sound) passes.few in
       let self : n ≤ n = omega arith in
       shows_more bl ol el m m₁ m' k S (entered_state S e) (entered e n b.counters.stamp (entry_price b e.side e.price)) new n up self w refl
       (λ p i. earlier-stands b e p (ascends-in 1 n b.orders p up i).1)
       (side-room k b e Bid passes.side) (side-room k b e Offer passes.side) passes.ends u is
-      (subst (λ (v : Board). Reserved (write n e.reserve S.hidden) v.orders (items m₁.reserves)) is
+      (subst (λ (v : Board). Reserved (write n e.reserve S.hidden) v.orders m₁.reserves.items) is
       (did.reserves 1 S.hidden passes.few up w.reserves))
       (f ∙ ap (λ (v : Board). entries_of v o) is ∙ ap (λ (x : Order). entries_of (entered_board b e) x) did.order) made
 
@@ -130,7 +129,7 @@ module _ {B O E : Type 0} (bl : Ghosts B BidRank) (ol : Ghosts O OfferRank) (el 
       Ok tt ≡ refused_if (leb (room_for k e.side) (count (on e.side) S.board.orders)) Full →
       Ok tt ≡ refused_if (is_some e.end && leb k.ends (count ending S.board.orders)) Full →
       Shows bl ol el m k S → Untouched bl ol el m m₁ →
-      Enters e o (board_of m.board) (board_of m₁.board) (items m.reserves) (items m₁.reserves) →
+      Enters e o (board_of m.board) (board_of m₁.board) m.reserves.items m₁.reserves.items →
       new ≡ entries_of (board_of m₁.board) o → Enlisted bl ol el m₁ m' new →
       Replies bl ol el m' k (Ok (Entered o.number)) (step k S (Entry e))
   unfolding step line_full entered

@@ -11,7 +11,6 @@ use Rattle.rules.specs.Board.{Opening, Board, State}
 use Rattle.rules.specs.Standings.{standing}
 use Rattle.rules.specs.Refusing.{tick_refusal}
 use Rattle.rules.specs.Calls.{ticked_board, step}
-use Rattle.table.specs.Items.{items}
 use Rattle.board.specs.Memory.{board_of}
 use Rattle.memory.specs.declared.memory.Memory.{Memory}
 use Rattle.memory.specs.Shown.{Shows}
@@ -33,7 +32,7 @@ module _ {B O E : Type 0} (bl : Ghosts B BidRank) (ol : Ghosts O OfferRank) (el 
   unfolding ticked_board standing
   ticked m m' k S t w u r e =
       shows-still bl ol el m m' k S (record { board = ticked_board S.board t; hidden = S.hidden }) w u (e ∙ ap (λ (b : Board). ticked_board b t) w.board)
-      (w.reserves ∙ sym (ap (λ x. items x) r)) refl (λ p i. refl)
+      (w.reserves ∙ sym (ap (λ x. x.items) r)) refl (λ p i. refl)
 
   pub tick-done : (m m' : Memory B O E) (k : Opening) (S : State) (t : ℕ) → tick_refusal (board_of m.board) t ≡ None → Shows bl ol el m k S →
       Untouched bl ol el m m' → m'.reserves ≡ m.reserves → board_of m'.board ≡ ticked_board (board_of m.board) t →

@@ -3,12 +3,12 @@ ghost use Rattle.rules.specs.Calls.{opened};
 ghost use Rattle.memory.specs.Shown.{Shows};
 ghost use Rattle.calls.specs.Openings.{opening_with};
 
+use arrayvec::ArrayVec;
 use board::board::Board;
 use line::lines::Line;
 use market::rank::{BidRank, EndTime, OfferRank};
 use market::settings::Settings;
 use memory::memory::Memory;
-use table::fixed::Table;
 
 /// A quiet book at time 0 with these settings and lines, which are emptied.
 pub fn open<B: Line<BidRank> + Drop, O: Line<OfferRank> + Drop, E: Line<EndTime> + Drop>(
@@ -25,7 +25,7 @@ pub fn open<B: Line<BidRank> + Drop, O: Line<OfferRank> + Drop, E: Line<EndTime>
     Memory {
         settings,
         board: Board::new(),
-        reserves: Table::new(0),
+        reserves: ArrayVec::new(),
         bids,
         offers,
         ends,

@@ -23,7 +23,6 @@ use Rattle.rules.specs.Rising.{Ascends}
 use Rattle.rules.proofs.Tests.{none≢some}
 use Rattle.rules.proofs.Rows.{ascends-unique, ordered-in}
 use Rattle.rules.proofs.Reasons.{Begins, Why, why}
-use Rattle.table.specs.Items.{items}
 use Rattle.board.specs.EndTimes.{end_time}
 use Rattle.board.specs.Memory.{board_of}
 use Rattle.board.specs.declared.board.Board.{Board as Held}
@@ -148,7 +147,7 @@ module _ {B O E : Type 0} (bl : Ghosts B BidRank) (ol : Ghosts O OfferRank) (el 
         record {
           opening = opening-relisted bl ol el m₁ m' old new made ∙ opening-alone bl ol el m m₁ refl refl refl refl ∙ w.opening;
           board = board;
-          reserves = each-kept (λ (o : Order). S.hidden o.number) f (λ o. refl) b.orders ∙ w.reserves ∙ sym (ap (λ v. items v) made.same.reserves);
+          reserves = each-kept (λ (o : Order). S.hidden o.number) f (λ o. refl) b.orders ∙ w.reserves ∙ sym (ap (λ v. v.items) made.same.reserves);
           queued = all-started m' b' b.orders x y.side y.price n up there.0 refl
               (requeued bl ol el m₁ m' b b' b.orders x (Some (f x)) n up there.0 refl (refl, refl) (λ o i u. stands_alike b b' o there.1 refl) made'
               (queued-by bl ol el m m₁ b.orders b refl refl refl w.queued));

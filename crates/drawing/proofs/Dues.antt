@@ -17,7 +17,6 @@ use Rattle.rules.specs.Board.{Opening, Board, State, other, on, meet, is_open}
 use Rattle.rules.specs.Standings.{ahead}
 use Rattle.rules.specs.Entitlement.{first_entitled}
 use Rattle.rules.specs.Draws.{Step, begins, fills, removes, rests, both, incoming_of, passive_for, opening, pairing, goes, as_removal, removing, phase_end, expiring, earlier, coming, decided}
-use Rattle.table.specs.Items.{items}
 use Rattle.board.specs.EndTimes.{end_time}
 use Rattle.board.specs.Memory.{board_of}
 use Rattle.queues.specs.Lists.{InStep}
@@ -125,18 +124,18 @@ module _ {B O E : Type 0} (bl : Ghosts B BidRank) (ol : Ghosts O OfferRank) (el 
       (record { below = S.board.counters.number; rising = s.row.rising; lists = w.queued.ends })
 
   pub meets-there : (m : Memory B O E) (k : Opening) (S : State) (meets : Bool) → Shows bl ol el m k S → meets ≡ meet S.board.orders →
-      meets ≡ meet (items m.board.orders)
+      meets ≡ meet m.board.orders.items
   meets-there m k S meets w e = e ∙ ap (λ (b : Board). meet b.orders) (sym w.board)
 
   -- the order that one of this side meets
   pub passive : (m : Memory B O E) (k : Opening) (S : State) (o : Order) (s : Side) (r : Option Order) → Shows bl ol el m k S → o.side ≡ s →
-      r ≡ first (on (other s)) (ahead (board_of m.board)) (items m.board.orders) → r ≡ passive_for S.board (Some o)
+      r ≡ first (on (other s)) (ahead (board_of m.board)) m.board.orders.items → r ≡ passive_for S.board (Some o)
   passive m k S o s r w e f =
-      f ∙ ap (λ (v : Side). first (on (other v)) (ahead (board_of m.board)) (items m.board.orders)) (sym e) ∙
+      f ∙ ap (λ (v : Side). first (on (other v)) (ahead (board_of m.board)) m.board.orders.items) (sym e) ∙
       ap (λ (b : Board). passive_for b (Some o)) w.board
 
   pub comes : (m : Memory B O E) (k : Opening) (S : State) (t : Option ℕ) (x : Option (Order × ℕ)) → Shows bl ol el m k S →
-      t ≡ phase_end m.board.phase m.settings m.board.session → x ≡ expiring m.board.clock.wished (items m.board.orders) →
+      t ≡ phase_end m.board.phase m.settings m.board.session → x ≡ expiring m.board.clock.wished m.board.orders.items →
       earlier m.board.clock.wished t x ≡ coming k S.board
   unfolding coming
   comes m k S t x w e f =

@@ -7,7 +7,6 @@ use Rattle.market.specs.declared.rank.EndTime.{EndTime}
 use Rattle.rules.specs.Board.{Opening, State}
 use Rattle.rules.specs.Standings.{standing}
 use Rattle.rules.specs.Draws.{rests, rested_board, board_after, hidden_after}
-use Rattle.table.specs.Items.{items}
 use Rattle.board.specs.Memory.{board_of}
 use Rattle.memory.specs.declared.memory.Memory.{Memory}
 use Rattle.memory.specs.Shown.{Shows}
@@ -20,4 +19,4 @@ module _ {B O E : Type 0} (bl : Ghosts B BidRank) (ol : Ghosts O OfferRank) (el 
   unfolding board_after hidden_after rested_board standing
   rested m m' k S w u r e =
       shows-still bl ol el m m' k S (after S rests) w u (e ∙ ap rested_board w.board)
-      (w.reserves ∙ sym (ap (λ x. items x) r)) refl (λ p i. refl)
+      (w.reserves ∙ sym (ap (λ x. x.items) r)) refl (λ p i. refl)

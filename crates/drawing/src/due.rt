@@ -3,7 +3,6 @@ ghost use Rattle.std.specs.Prelude.{◌≡◌, Some};
 ghost use Rattle.rules.specs.Base.{or_else};
 ghost use Rattle.rules.specs.Board.{meet};
 ghost use Rattle.rules.specs.Draws.{rests, decided, incoming_of, passive_for, opening, pairing, removing, earlier, coming};
-ghost use Rattle.table.specs.Items.{items};
 ghost use Rattle.board.specs.Memory.{board_of};
 ghost use Rattle.memory.specs.Shown.{Whenever};
 ghost use Rattle.drawing.specs.Due.{meant_of};
@@ -39,10 +38,10 @@ pub enum Due {
 
 /// The incoming order, if it is live.
 fn incoming_order(board: &Board) -> Option<Order>
-    ensures { result ≡ incoming_of board.now.counters.incoming (items board.now.orders) }
+    ensures { result ≡ incoming_of board.now.counters.incoming board.now.orders.items }
 {
     let number = board.counters.incoming?;
-    numbered(board.orders.items(), number)
+    numbered(&board.orders, number)
 }
 
 /// The first order of the side that the trigger meets.

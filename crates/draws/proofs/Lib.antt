@@ -1,5 +1,5 @@
 pub mod Boards
 pub mod Filling
 pub mod Lists
-pub mod Placed
+pub mod Reserves
 pub mod Settling

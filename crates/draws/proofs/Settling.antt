@@ -5,9 +5,9 @@ use Rattle.rules.specs.Base.{each}
 use Rattle.rules.specs.Fills.{Remainder, stays, restocks, leaves, drawn, left, executed, restocked, replace, drawn_from}
 use Rattle.rules.specs.Rising.{Ascends, Keeps}
 use Rattle.board.specs.Positions.{position_of}
-use Rattle.draws.specs.Rows.{put_at}
+use Rattle.board.specs.Rows.{put_at}
 use Rattle.draws.specs.Remainders.{reserve_after}
-use Rattle.draws.proofs.Placed.{reserve_of, kept, reserves-put}
+use Rattle.board.proofs.Placed.{reserve_of, kept, reserves-put}
 
 -- what is left of an order has its number
 pub keeps-left : (f : Remainder) (stamp : ℕ) (s : Bool) (n size : ℕ) (o : Order) → Keeps o.number (left f stamp (executed s n size o))

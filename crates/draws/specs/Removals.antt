@@ -1,11 +1,9 @@
--- Which order is removed next, but for end times, and the board without an order. Assumes nothing.
+-- Which order is removed next, but for end times. Assumes nothing.
 use Rattle.std.specs.Prelude.{ℕ, List, Some, None, Option}
 use Rattle.market.specs.declared.order.Order.{Order}
 use Rattle.market.specs.declared.record.Cause.{Cause}
 use Rattle.rules.specs.Base.{find}
 use Rattle.rules.specs.Board.{Board}
-use Rattle.rules.specs.Fills.{replace}
-use Rattle.rules.specs.Privileges.{freed, adjust}
 use Rattle.rules.specs.Draws.{goes, cause_of}
 use Rattle.board.specs.Memory.{Reserved}
 
@@ -16,19 +14,6 @@ with_cause (Some o) = Some (o, cause_of o.kind)
 -- the lowest-numbered order that must go, and why
 abbrev pub removal_due : Board → Option (Order × Cause)
 removal_due b = with_cause (find (goes b) b.orders)
-
--- the board without the order, and a Priority 1 that it carried free again
-unfoldable pub struck_board : Board → Order → Board
-struck_board b o =
-    record {
-      orders = replace o.number None b.orders;
-      phase = b.phase;
-      clock = b.clock;
-      counters = b.counters;
-      session = b.session;
-      completions = b.completions;
-      privileges = adjust (freed o.number) o.trader o.side b.privileges;
-    }
 
 -- whatever the reserves by number are, those beside the orders before are so those beside the orders after
 abbrev pub Kept : List Order → List ℕ → List Order → List ℕ → Type 0

@@ -1,13 +1,5 @@
--- What is written into a row of a table, and read from one. Assumes nothing.
-use Rattle.std.specs.Prelude.{ℕ, List, Some, None, Option, slice_index, slice_set}
-use Rattle.std.specs.List.{remove}
-
-module _ {A : Type 0} where
-  -- a row is written anew, or goes
-  abbrev pub put_at : Option ℕ → Option A → List A → List A
-  put_at None r xs = xs
-  put_at (Some i) None xs = remove xs i
-  put_at (Some i) (Some x) xs = slice_set xs i x
+-- What is read from a row of the table of reserves. Assumes nothing.
+use Rattle.std.specs.Prelude.{ℕ, List, Some, None, Option, slice_index}
 
 -- the reserve in a row, and 0 in none
 abbrev pub reserve_at : Option ℕ → List ℕ → ℕ

@@ -5,7 +5,6 @@ ghost use Rattle.rules.specs.Board.{on, numbered};
 ghost use Rattle.rules.specs.Fills.{first_fill, executed, restocked};
 ghost use Rattle.rules.specs.Draws.{started};
 
-use board::prices::{same_price, same_side};
 use market::order::{Order, Side};
 
 /// The number of an order's first fill in the session, after one more fill.
@@ -57,7 +56,7 @@ fn start_price(trigger: u32, price: i32, order: &Order) -> i32
 fn is_prior(passive: Side, price: i32, order: &Order) -> bool
     ensures { result ≡ (on passive order.now && eq_z order.now.price price) }
 {
-    same_side(passive, order.side) && same_price(order.price, price)
+    passive == order.side && order.price == price
 }
 
 /// The order as a session starts: it has no fill in the session yet.

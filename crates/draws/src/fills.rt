@@ -1,6 +1,5 @@
 //! A fill: a bid and an offer trade with each other.
 ghost use Rattle.std.specs.Prelude.{◌≡◌};
-ghost use Rattle.table.specs.Items.{items};
 ghost use Rattle.rules.specs.Board.{in_session};
 ghost use Rattle.rules.specs.Entitlement.{prior_left};
 ghost use Rattle.rules.specs.Fills.{displayed_of, completions_after, privileges_after, aggressor_after, session_after, fill_price};
@@ -10,16 +9,19 @@ ghost use Rattle.draws.specs.Settled.{Settles, Fills};
 
 use crate::edits::executed;
 use crate::remainder::Remainder;
-use crate::rows::{put, reserve_at};
+use crate::rows::reserve_at;
+use arrayvec::ArrayVec;
 use board::board::Board;
 use board::completions::complete;
 use board::orders::{is_prior_left, position};
 use board::phases::in_session;
 use board::privileges::Privileges;
+use board::rows::put;
+use board::seat::Seat;
+use board::seats::Seats;
 use market::order::Order;
 use market::record::Fill;
 use market::state::{Completion, Phase, Session};
-use table::fixed::Table;
 
 /// A fill as the tape tells it, and what is left of its two orders: nothing of one that was filled whole.
 #[derive(Clone, Copy)]
@@ -45,19 +47,16 @@ fn fill_price(board: &Board, bid: &Order, offer: &Order) -> i32
 fn displayed_of(order: Option<Order>) -> u32
     ensures { result ≡ displayed_of order }
 {
-    match order {
-        Some(order) => order.displayed,
-        None => 0,
-    }
+    order.map_or(0, |order| order.displayed)
 }
 
 /// The Aggressive Owner after a fill.
 fn aggressor_after(board: &Board) -> Option<u8>
-    ensures { result ≡ aggressor_after board.now.phase (prior_left (items board.now.orders)) board.now.session }
+    ensures { result ≡ aggressor_after board.now.phase (prior_left board.now.orders.items) board.now.session }
 {
     let session = &board.session;
     match board.phase {
-        Phase::Timed if !session.settled && !is_prior_left(board.orders.items()) => {
+        Phase::Timed if !session.settled && !is_prior_left(&board.orders) => {
             Some(session.trigger)
         }
         _ => session.aggressor,
@@ -66,7 +65,7 @@ fn aggressor_after(board: &Board) -> Option<u8>
 
 /// The session after a fill of these orders, which the board no longer shows as they were.
 fn session_after(board: &Board, bid: &Order, offer: &Order) -> Session
-    ensures { result ≡ session_after board.now.phase (prior_left (items board.now.orders)) board.now.clock.time bid.now offer.now board.now.session }
+    ensures { result ≡ session_after board.now.phase (prior_left board.now.orders.items) board.now.clock.time bid.now offer.now board.now.session }
 {
     let aggressor = aggressor_after(board);
     if !in_session(board.phase) {
@@ -86,7 +85,7 @@ fn session_after(board: &Board, bid: &Order, offer: &Order) -> Session
 
 /// In a session, an order that was filled whole may be its trader's first.
 fn note_completion(
-    completions: &mut [Option<Completion>; 258],
+    completions: &mut Seats<Completion>,
     session: bool,
     remainder: Remainder,
     order: &Order,
@@ -95,7 +94,7 @@ fn note_completion(
     ensures { completions.new ≡ completions_after (meant remainder) session order.now.trader order.now.side completion completions.old }
 {
     match remainder {
-        Remainder::Leaves if session => complete(completions, order.trader, order.side, completion),
+        Remainder::Leaves if session => complete(completions, Seat::of(order), completion),
         _ => {}
     }
 }
@@ -105,7 +104,7 @@ fn end_privilege(privileges: &mut Privileges, remainder: Remainder, order: &Orde
     ensures { privileges.new.slots ≡ privileges_after (meant remainder) order.now privileges.old.slots }
 {
     match remainder {
-        Remainder::Leaves => privileges.lose(order.trader, order.side, order.number),
+        Remainder::Leaves => privileges.lose(Seat::of(order), order.number),
         Remainder::Stays | Remainder::Restocks(_) => {}
     }
 }
@@ -113,16 +112,16 @@ fn end_privilege(privileges: &mut Privileges, remainder: Remainder, order: &Orde
 /// What a fill with this number and of this size does to one of its two orders, which is answered if it is still live.
 fn settle(
     board: &mut Board,
-    reserves: &mut Table<u32, 128>,
+    reserves: &mut ArrayVec<u32, 128>,
     order: &Order,
     size: u32,
     fill: u64,
 ) -> Option<Order>
-    ensures { Settles (board_of board.old) (items reserves.old) order.now size fill (board_of board.new) (items reserves.new) result }
+    ensures { Settles (board_of board.old) reserves.old.items order.now size fill (board_of board.new) reserves.new.items result }
 {
     let session = in_session(board.phase);
-    let row = position(board.orders.items(), order.number);
-    let reserve = reserve_at(reserves.items(), row);
+    let row = position(&board.orders, order.number);
+    let reserve = reserve_at(reserves, row);
     let remainder = Remainder::of(order.displayed.saturating_sub(size), order.shown, reserve);
     let stamp = board.counters.stamp;
     let after = remainder.order_after(stamp, &executed(session, fill, size, order));
@@ -145,8 +144,8 @@ fn settle(
 }
 
 /// The bid and the offer trade the smaller of their displayed sizes.
-pub fn fill(board: &mut Board, reserves: &mut Table<u32, 128>, bid: &Order, offer: &Order) -> Filled
-    ensures { Fills (board_of board.old) (items reserves.old) bid.now offer.now (board_of board.new) (items reserves.new) result }
+pub fn fill(board: &mut Board, reserves: &mut ArrayVec<u32, 128>, bid: &Order, offer: &Order) -> Filled
+    ensures { Fills (board_of board.old) reserves.old.items bid.now offer.now (board_of board.new) reserves.new.items result }
 {
     let size = bid.displayed.min(offer.displayed);
     let number = board.counters.fills.saturating_add(1);

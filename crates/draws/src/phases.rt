@@ -42,7 +42,7 @@ fn settle_privileges(board: &mut Board)
     match board.phase {
         Phase::Rolling => board
             .privileges
-            .grant(board.orders.items(), &board.completions),
+            .grant(&board.orders, &board.completions),
         Phase::Open | Phase::Timed | Phase::Fbs => board.privileges.clear(),
     }
 }

@@ -1,20 +1,17 @@
 //! Orders that are removed.
 ghost use Rattle.std.specs.Prelude.{◌≡◌, ℕ};
-ghost use Rattle.table.specs.Items.{items};
 ghost use Rattle.rules.specs.Base.{find};
 ghost use Rattle.rules.specs.Draws.{must_go, cause_of, removed_board};
 ghost use Rattle.rules.specs.Rising.{Ascends};
 ghost use Rattle.board.specs.Memory.{board_of};
-ghost use Rattle.draws.specs.Removals.{removal_due, struck_board, Kept};
+ghost use Rattle.draws.specs.Removals.{removal_due, Kept};
 
 use crate::phases::reach;
-use crate::rows::put;
+use arrayvec::ArrayVec;
 use board::board::Board;
-use board::orders::position;
 use board::phases::in_session;
 use market::order::{Order, OrderType};
 use market::record::Cause;
-use table::fixed::Table;
 
 /// Whether the order is FaKI, or is FaK, filled in part and outside a session.
 fn must_go(session: bool, order: &Order) -> bool
@@ -41,40 +38,25 @@ fn cause_of(kind: OrderType) -> Cause
 fn first_to_go(orders: &[Order], session: bool) -> Option<Order>
     ensures { result ≡ find (λ o. must_go session o.kind o.filled) orders.now }
 {
-    for order in orders {
-        if must_go(session, order) {
-            return Some(*order);
-        }
-    }
-    None
+    orders
+        .iter()
+        .find(|order| must_go(session, order))
+        .copied()
 }
 
 /// The lowest-numbered order that must go, and why.
 pub fn removal_due(board: &Board) -> Option<(Order, Cause)>
     ensures { result ≡ removal_due (board_of board.now) }
 {
-    let order = first_to_go(board.orders.items(), in_session(board.phase))?;
+    let order = first_to_go(&board.orders, in_session(board.phase))?;
     Some((order, cause_of(order.kind)))
 }
 
-/// The order leaves the board, and its reserve with it. A Priority 1 that it carried is free again.
-pub fn strike(board: &mut Board, reserves: &mut Table<u32, 128>, order: &Order)
-    ensures board { (k m : ℕ) → Ascends k m (items board.old.orders) → board_of board.new ≡ struck_board (board_of board.old) order.now }
-    ensures reserves { (k m : ℕ) → Ascends k m (items board.old.orders) → Kept (items board.old.orders) (items reserves.old) (items board.new.orders) (items reserves.new) }
-{
-    let row = position(board.orders.items(), order.number);
-    put(&mut board.orders, row, None);
-    put(reserves, row, None);
-    board
-        .privileges
-        .free(order.trader, order.side, order.number);
-}
-
 /// The order is removed at this time.
-pub fn remove(board: &mut Board, reserves: &mut Table<u32, 128>, order: &Order, time: u64)
-    ensures board { (k m : ℕ) → Ascends k m (items board.old.orders) → board_of board.new ≡ removed_board (board_of board.old) time order.now }
-    ensures reserves { (k m : ℕ) → Ascends k m (items board.old.orders) → Kept (items board.old.orders) (items reserves.old) (items board.new.orders) (items reserves.new) }
+pub fn remove(board: &mut Board, reserves: &mut ArrayVec<u32, 128>, order: &Order, time: u64)
+    ensures board { (k m : ℕ) → Ascends k m board.old.orders.items → board_of board.new ≡ removed_board (board_of board.old) time order.now }
+    ensures reserves { (k m : ℕ) → Ascends k m board.old.orders.items → Kept board.old.orders.items reserves.old.items board.new.orders.items reserves.new.items }
 {
-    strike(board, reserves, order);
+    board.strike(reserves, order);
     reach(&mut board.clock, time);
 }

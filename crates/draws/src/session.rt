@@ -1,32 +1,23 @@
 //! A session begins.
 ghost use Rattle.std.specs.Prelude.{◌≡◌};
-ghost use Rattle.table.specs.Items.{items};
 ghost use Rattle.rules.specs.Base.{each};
-ghost use Rattle.rules.specs.Board.{empty};
 ghost use Rattle.rules.specs.Draws.{started, begun_board};
 ghost use Rattle.board.specs.Memory.{board_of};
 
 use crate::edits;
+use arrayvec::ArrayVec;
 use board::board::Board;
+use board::seats::Seats;
 use market::order::{Order, Side};
-use market::state::{Completion, Phase, Session};
-use table::fixed::Table;
+use market::state::{Phase, Session};
 
 /// Every order starts the session.
-fn start_orders(orders: &mut Table<Order, 128>, trigger: u32, passive: Side, price: i32)
-    ensures { items orders.new ≡ each (started trigger passive price) (items orders.old) }
+fn start_orders(orders: &mut ArrayVec<Order, 128>, trigger: u32, passive: Side, price: i32)
+    ensures { orders.new.items ≡ each (started trigger passive price) orders.old.items }
 {
-    for at in 0..orders.len() {
-        let order = orders.items()[at];
-        orders.set(at, edits::started(trigger, passive, price, &order));
+    for order in orders.iter_mut() {
+        *order = edits::started(trigger, passive, price, order);
     }
-}
-
-/// No order has been filled whole.
-fn no_completions() -> [Option<Completion>; 258]
-    ensures { result ≡ empty }
-{
-    [None; 258]
 }
 
 /// The trigger, which met the passive order, begins a session at the latter's price.
@@ -52,6 +43,6 @@ pub fn begin_session(board: &mut Board, trigger: &Order, passive: &Order)
         buyer: None,
         seller: None,
     };
-    board.completions = no_completions();
+    board.completions = Seats::new();
     board.privileges.clear();
 }

@@ -1,6 +1,6 @@
 -- The board and the reserves after an entry and after a change, put together from their parts. Assumes nothing.
-use Rattle.std.proofs.Common.{◌≡◌, ℕ, suc, ◌+◌, ◌<◌, ◌≤◌, min, Bool, cond, ltb, List, [], ◌∷◌, ◌++◌, length, Some, Option, refl, ap, ◌∙◌, inl, arith}
-use Rattle.std.proofs.lemmas.Bool.{lt-ltb, cond-true}
+use Rattle.std.proofs.Common.{◌≡◌, ℕ, suc, ◌+◌, ◌<◌, ◌≤◌, min, Bool, false, true, cond, List, [], ◌∷◌, ◌++◌, length, Some, Option, refl, ap, ◌∙◌, inl, arith}
+use Rattle.std.specs.Prelude.{Result, Ok, Err, IsOk, OnOk, ◌↔◌}
 use Rattle.market.specs.declared.order.Order.{Order}
 use Rattle.market.specs.declared.state.Counters.{Counters}
 use Rattle.market.specs.declared.call.OrderEntry.{OrderEntry}
@@ -13,7 +13,7 @@ use Rattle.rules.specs.Calls.{awaiting, entered, entered_board, takes_stamp, cha
 use Rattle.rules.specs.Fills.{replace}
 use Rattle.rules.proofs.Rows.{write-here, write-there, ascends-in}
 use Rattle.effects.specs.Effects.{claimed_board, forfeited_board}
-use Rattle.effects.proofs.Placed.{reserve_of}
+use Rattle.board.proofs.Placed.{reserve_of}
 
 -- a count that is not near its type's end
 pub one_more : (n most : ℕ) {r : ℕ} → r ≡ min (n + 1) most → n + 1 ≤ most → r ≡ n + 1
@@ -25,10 +25,10 @@ counts n s f w i = record { number = n; stamp = s; fills = f; writes = w; incomi
 pub same-counts : {n n' s s' f w w' : ℕ} {i i' : Option ℕ} → n ≡ n' → s ≡ s' → w ≡ w' → i ≡ i' → counts n s f w i ≡ counts n' s' f w' i'
 same-counts a b c d = cc
 
--- one pushed onto a table that is not full
-pub pushed : {A : Type 0} (xs ys : List A) (x : A) (most : ℕ) → ys ≡ cond (ltb (length xs) most) (xs ++ (x ∷ [])) xs → length xs < most →
-    ys ≡ xs ++ (x ∷ [])
-pushed xs ys x most e l = e ∙ cond-true (ltb (length xs) most) (xs ++ (x ∷ [])) xs (lt-ltb (length xs) most l)
+-- what a push leaves where there is room
+pub pushed : {E P : Type 0} (r : Result (Unit {0}) E) {room : Type 0} → (IsOk r ↔ room) → OnOk r P → room → P
+pushed (Ok u) fits done l = done
+pushed (Err e) fits done l = let h : false ≡ true = fits.1 l in cc
 
 -- ---- an entry
 

@@ -1,5 +1,5 @@
 -- What accepted calls do to the board and to the reserves beside its orders. Assumes nothing.
-use Rattle.std.specs.Prelude.{◌≡◌, ℕ, ◌<◌, not, ◌&&◌, List, length, ℤ, None}
+use Rattle.std.specs.Prelude.{◌≡◌, ℕ, ◌<◌, not, ◌&&◌, List, length, ℤ}
 use Rattle.market.specs.declared.order.Order.{Order}
 use Rattle.market.specs.declared.state.Privilege.{Privilege}
 use Rattle.market.specs.declared.call.OrderEntry.{OrderEntry}
@@ -7,11 +7,10 @@ use Rattle.market.specs.declared.call.OrderChange.{OrderChange}
 use Rattle.rules.specs.Base.{write}
 use Rattle.rules.specs.Board.{Board, Table, better, is_fbs}
 use Rattle.rules.specs.Rising.{Ascends}
-use Rattle.rules.specs.Privileges.{freed, adjust}
-use Rattle.rules.specs.Fills.{replace}
 use Rattle.rules.specs.Refusing.{most_orders, entry_price}
 use Rattle.rules.specs.Calls.{entered, taken_at, entered_board, takes_stamp, changed, lost_at, changed_board, cancelled_board}
-use Rattle.board.specs.Memory.{Reserved, Bounded}
+use Rattle.board.specs.Memory.{Bounded}
+use Rattle.board.specs.Struck.{Keeping}
 
 abbrev pub with_privileges : Table Privilege → Board → Board
 with_privileges ps b =
@@ -33,28 +32,6 @@ claimed_board b e o =
 -- the board after order o, re-priced to p, loses the privilege that it may not carry
 abbrev pub forfeited_board : Board → Order → ℤ → Board
 forfeited_board b o p = with_privileges (lost_at (is_fbs b.phase && better o.side p b.session.price) o b.privileges) b
-
--- the board without the order, and a Priority 1 that it carried free again
-unfoldable pub struck_board : Board → Order → Board
-struck_board b o =
-    record {
-      orders = replace o.number None b.orders;
-      phase = b.phase;
-      clock = b.clock;
-      counters = b.counters;
-      session = b.session;
-      completions = b.completions;
-      privileges = adjust (freed o.number) o.trader o.side b.privileges;
-    }
-
--- h are the reserves by number before, h' after; rs and rs' those in memory, beside the orders os and os'
-abbrev pub Keeping : (ℕ → ℕ) → (ℕ → ℕ) → List Order → List ℕ → List Order → List ℕ → Type 0
-Keeping h h' os rs os' rs' = Reserved h os rs → Reserved h' os' rs'
-
--- the order leaves
-pub record Strikes (o : Order) (b b' : Board) (rs rs' : List ℕ) : Type 0 where
-  pub board : (k m : ℕ) → Ascends k m b.orders → b' ≡ struck_board b o
-  pub reserves : (k m : ℕ) (h : ℕ → ℕ) → Ascends k m b.orders → Keeping h h b.orders rs b'.orders rs'
 
 -- the entry becomes order o
 pub record Enters (e : OrderEntry) (o : Order) (b b' : Board) (rs rs' : List ℕ) : Type 0 where

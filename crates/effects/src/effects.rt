@@ -1,21 +1,20 @@
 //! What accepted calls do to the board, and to the reserves, which stand in the same rows as their orders.
 ghost use Rattle.std.specs.Prelude.{◌≡◌, if◌then◌else◌};
-ghost use Rattle.table.specs.Items.{items};
 ghost use Rattle.rules.specs.Refusing.{entry_price};
 ghost use Rattle.rules.specs.Calls.{awaiting, entered, takes_stamp, changed, ticked_board};
 ghost use Rattle.board.specs.Memory.{board_of};
-ghost use Rattle.effects.specs.Effects.{claimed_board, forfeited_board, Strikes, Enters, Changes, Cancels};
+ghost use Rattle.effects.specs.Effects.{claimed_board, forfeited_board, Enters, Changes, Cancels};
 
-use crate::rows::put;
+use arrayvec::ArrayVec;
 use board::board::Board;
 use board::orders::position;
 use board::phases::in_fbs;
-use board::prices::{is_better, same_price};
-use board::session::entry_price;
+use board::prices::is_better;
+use board::rows::put;
+use board::seat::Seat;
 use market::call::{OrderChange, OrderEntry};
 use market::order::Order;
 use market::state::{Clock, Counters};
-use table::fixed::Table;
 
 /// After an accepted call the tape must be drawn to quiet, by the wished time.
 fn await_draws(clock: &mut Clock, wished: u64)
@@ -30,9 +29,11 @@ fn claim(board: &mut Board, wanted: &OrderEntry, order: &Order)
     ensures { board_of board.new ≡ claimed_board (board_of board.old) wanted.now order.now }
 {
     if in_fbs(board.phase) && !is_better(wanted.side, order.price, board.session.price) {
-        board
-            .privileges
-            .take(wanted.trader, wanted.side, order.number);
+        let seat = Seat {
+            trader: wanted.trader,
+            side: wanted.side,
+        };
+        board.privileges.take(seat, order.number);
     }
 }
 
@@ -41,9 +42,7 @@ fn forfeit(board: &mut Board, order: &Order, price: i32)
     ensures { board_of board.new ≡ forfeited_board (board_of board.old) order.now price }
 {
     if in_fbs(board.phase) && is_better(order.side, price, board.session.price) {
-        board
-            .privileges
-            .lose(order.trader, order.side, order.number);
+        board.privileges.lose(Seat::of(order), order.number);
     }
 }
 
@@ -56,7 +55,7 @@ fn new_order(board: &Board, wanted: &OrderEntry) -> Order
         trader: wanted.trader,
         side: wanted.side,
         kind: wanted.kind,
-        price: entry_price(board, wanted.side, wanted.price),
+        price: board.entry_price(wanted.side, wanted.price),
         displayed: wanted.displayed,
         shown: wanted.displayed,
         end: wanted.end,
@@ -68,13 +67,14 @@ fn new_order(board: &Board, wanted: &OrderEntry) -> Order
 }
 
 /// The entry becomes a live order, which is answered.
-pub fn enter(board: &mut Board, reserves: &mut Table<u32, 128>, wanted: &OrderEntry) -> Order
-    ensures { Enters wanted.now result (board_of board.old) (board_of board.new) (items reserves.old) (items reserves.new) }
+pub fn enter(board: &mut Board, reserves: &mut ArrayVec<u32, 128>, wanted: &OrderEntry) -> Order
+    ensures { Enters wanted.now result (board_of board.old) (board_of board.new) reserves.old.items reserves.new.items }
 {
     let order = new_order(board, wanted);
     claim(board, wanted, &order);
-    board.orders.push(order);
-    reserves.push(wanted.reserve);
+    // An accepted entry finds room.
+    let _ = board.orders.try_push(order);
+    let _ = reserves.try_push(wanted.reserve);
     board.counters = Counters {
         number: board.counters.number.saturating_add(1),
         stamp: board.counters.stamp.saturating_add(1),
@@ -91,7 +91,7 @@ pub fn enter(board: &mut Board, reserves: &mut Table<u32, 128>, wanted: &OrderEn
 fn takes_stamp(change: &OrderChange, order: &Order) -> bool
     ensures { result ≡ takes_stamp change.now order.now }
 {
-    !same_price(change.price, order.price) || order.displayed < change.displayed
+    change.price != order.price || order.displayed < change.displayed
 }
 
 /// The new stamp, if one is taken.
@@ -118,16 +118,16 @@ fn changed_order(change: &OrderChange, anew: bool, stamp: u64, order: &Order) ->
 /// Price and sizes of the order are written anew. The order as it is then is answered.
 pub fn change(
     board: &mut Board,
-    reserves: &mut Table<u32, 128>,
+    reserves: &mut ArrayVec<u32, 128>,
     change: &OrderChange,
     order: &Order,
 ) -> Order
-    ensures { Changes change.now order.now result (board_of board.old) (board_of board.new) (items reserves.old) (items reserves.new) }
+    ensures { Changes change.now order.now result (board_of board.old) (board_of board.new) reserves.old.items reserves.new.items }
 {
     let stamp = board.counters.stamp;
     let anew = takes_stamp(change, order);
     let after = changed_order(change, anew, stamp, order);
-    let row = position(board.orders.items(), order.number);
+    let row = position(&board.orders, order.number);
     put(&mut board.orders, row, Some(after));
     put(reserves, row, Some(change.reserve));
     forfeit(board, order, change.price);
@@ -142,23 +142,11 @@ pub fn change(
     after
 }
 
-/// The order leaves the board, and its reserve with it. A Priority 1 that it carried is free again.
-pub fn strike(board: &mut Board, reserves: &mut Table<u32, 128>, order: &Order)
-    ensures { Strikes order.now (board_of board.old) (board_of board.new) (items reserves.old) (items reserves.new) }
-{
-    let row = position(board.orders.items(), order.number);
-    put(&mut board.orders, row, None);
-    put(reserves, row, None);
-    board
-        .privileges
-        .free(order.trader, order.side, order.number);
-}
-
 /// The order is taken back.
-pub fn cancel(board: &mut Board, reserves: &mut Table<u32, 128>, order: &Order)
-    ensures { Cancels order.now (board_of board.old) (board_of board.new) (items reserves.old) (items reserves.new) }
+pub fn cancel(board: &mut Board, reserves: &mut ArrayVec<u32, 128>, order: &Order)
+    ensures { Cancels order.now (board_of board.old) (board_of board.new) reserves.old.items reserves.new.items }
 {
-    strike(board, reserves, order);
+    board.strike(reserves, order);
     let time = board.clock.time;
     await_draws(&mut board.clock, time);
 }

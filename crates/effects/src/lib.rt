@@ -2,4 +2,3 @@
 #![tactic(auto)]
 
 pub mod effects;
-pub mod rows;

@@ -6,15 +6,17 @@ use crate::refusal::MessageFault;
 use std::fmt;
 
 /// A side of the market: bids buy, offers sell.
-#[derive(Clone, Copy, PartialEq, Eq)]
+#[derive(Clone, Copy, PartialEq, Eq, Default)]
 pub enum Side {
+    #[default]
     Bid,
     Offer,
 }
 
 /// What becomes of the size that an order does not trade.
-#[derive(Clone, Copy)]
+#[derive(Clone, Copy, Default)]
 pub enum OrderType {
+    #[default]
     /// Fill and Store: the rest stays until it is filled or cancelled.
     FaS,
     /// Fill and Kill: once filled in part, the rest goes as soon as no session runs.
@@ -98,7 +100,7 @@ impl fmt::Display for OrderType {
 
 /// All that anybody may know of a live order. Its reserve, the hidden size from which the displayed size is topped up, is kept
 /// apart, so that nothing which decides by orders can read it.
-#[derive(Clone, Copy)]
+#[derive(Clone, Copy, Default)]
 pub struct Order {
     /// Orders are numbered from 1 as they are accepted.
     pub number: u32,

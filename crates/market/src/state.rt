@@ -37,7 +37,7 @@ pub struct Counters {
 }
 
 /// The last session that began. Before the first, nothing reads it.
-#[derive(Clone, Copy)]
+#[derive(Clone, Copy, Default)]
 pub struct Session {
     /// The Work-Up Price, at which all fills of the session are made.
     pub price: i32,

@@ -14,7 +14,6 @@ use Rattle.rules.specs.Members.{In}
 use Rattle.rules.specs.Rising.{Ascends, Keeps}
 use Rattle.rules.specs.Standings.{standing}
 use Rattle.market.specs.Ranks.{bid_ahead, offer_ahead, end_ahead}
-use Rattle.table.specs.Items.{items}
 use Rattle.board.specs.EndTimes.{end_time}
 use Rattle.queues.specs.Lists.{Lists}
 use Rattle.queues.specs.Entries.{bid_entry, offer_entry}
@@ -42,7 +41,7 @@ module _ {B O E : Type 0} (bl : Ghosts B BidRank) (ol : Ghosts O OfferRank) (el 
 
   -- the same orders, which stand as they stood
   pub shows-still : (m m' : Memory B O E) (k : Opening) (S S' : State) → Shows bl ol el m k S → Untouched m m' → board_of m'.board ≡ S'.board →
-      Reserved S'.hidden S'.board.orders (items m'.reserves) → S'.board.orders ≡ S.board.orders →
+      Reserved S'.hidden S'.board.orders m'.reserves.items → S'.board.orders ≡ S.board.orders →
       ((p : Order) → In p S.board.orders → standing S'.board p ≡ standing S.board p) → Shows bl ol el m' k S'
   shows-still m m' k S S' w u b r os still =
       record {
@@ -58,14 +57,14 @@ module _ {B O E : Type 0} (bl : Ghosts B BidRank) (ol : Ghosts O OfferRank) (el 
       Ascends 1 n S.board.orders → Shows bl ol el m k S → In o S.board.orders → Keeps o.number r → Alike o r →
       S'.board.orders ≡ replace o.number r S.board.orders →
       ((p : Order) → In p S.board.orders → ¬ (p.number ≡ o.number) → standing S'.board p ≡ standing S.board p) →
-      Untouched m m₁ → board_of m₁.board ≡ S'.board → Reserved S'.hidden S'.board.orders (items m₁.reserves) →
+      Untouched m m₁ → board_of m₁.board ≡ S'.board → Reserved S'.hidden S'.board.orders m₁.reserves.items →
       old ≡ entries_of S.board o → new ≡ afterwards S'.board r → Relisted bl ol el m₁ m' old new → Shows bl ol el m' k S'
   shows-replaced m m₁ m' k S S' o r old new n up w here keeps alike os others u b res e f made =
       let made' = subst (λ (x : Entries). Relisted bl ol el m₁ m' (entries_of S.board o) x) f (subst (λ (x : Entries). Relisted bl ol el m₁ m' x new) e made) in
       record {
         opening = opening-relisted bl ol el m₁ m' old new made ∙ opens m m₁ u ∙ w.opening;
         board = ap (λ (x : Held). board_of x) made.same.board ∙ b;
-        reserves = subst (λ x. Reserved S'.hidden S'.board.orders (items x)) (sym made.same.reserves) res;
+        reserves = subst (λ x. Reserved S'.hidden S'.board.orders x.items) (sym made.same.reserves) res;
         queued = subst (λ (xs : List Order). Queued bl ol el m' xs S'.board) (sym os)
             (requeued bl ol el m₁ m' S.board S'.board S.board.orders o r n up here keeps alike others made'
             (carry m m₁ S.board.orders S.board u w.queued));
@@ -77,14 +76,14 @@ module _ {B O E : Type 0} (bl : Ghosts B BidRank) (ol : Ghosts O OfferRank) (el 
       ((p : Order) → In p S.board.orders → standing S'.board p ≡ standing S.board p) →
       (on Bid o ≡ true → count (on Bid) S.board.orders < k.bids) → (on Offer o ≡ true → count (on Offer) S.board.orders < k.offers) →
       (ending o ≡ true → count ending S.board.orders < k.ends) →
-      Untouched m m₁ → board_of m₁.board ≡ S'.board → Reserved S'.hidden S'.board.orders (items m₁.reserves) →
+      Untouched m m₁ → board_of m₁.board ≡ S'.board → Reserved S'.hidden S'.board.orders m₁.reserves.items →
       new ≡ entries_of S'.board o → Enlisted bl ol el m₁ m' new → Shows bl ol el m' k S'
   shows_more m m₁ m' k S S' o new n up above w os still x y z u b res f made =
       let is = opens m m₁ u ∙ w.opening in
       record {
         opening = opening-enlisted bl ol el m₁ m' new made ∙ is;
         board = ap (λ (x : Held). board_of x) made.same.board ∙ b;
-        reserves = subst (λ x. Reserved S'.hidden S'.board.orders (items x)) (sym made.same.reserves) res;
+        reserves = subst (λ x. Reserved S'.hidden S'.board.orders x.items) (sym made.same.reserves) res;
         queued = subst (λ (xs : List Order). Queued bl ol el m' xs S'.board) (sym os)
             (queued-more bl ol el m₁ m' S'.board S.board.orders o n up above
             (λ h. subst (λ (c : ℕ). count (on Bid) S.board.orders < c) (sym (ap (λ (q : Opening). q.bids) is)) (x h))
@@ -106,7 +105,7 @@ module _ {B O E : Type 0} (bl : Ghosts B BidRank) (ol : Ghosts O OfferRank) (el 
   -- both sides are ranked anew
   pub shows-reranked : (m m₁ m' : Memory B O E) (k : Opening) (S S' : State) (n : ℕ) → Ascends 1 n S.board.orders → Shows bl ol el m k S →
       S'.board.orders ≡ S.board.orders → count (on Bid) S.board.orders ≤ k.bids → count (on Offer) S.board.orders ≤ k.offers →
-      Untouched m m₁ → board_of m₁.board ≡ S'.board → Reserved S'.hidden S'.board.orders (items m₁.reserves) →
+      Untouched m m₁ → board_of m₁.board ≡ S'.board → Reserved S'.hidden S'.board.orders m₁.reserves.items →
       Reranked bl ol el m₁ m' → Shows bl ol el m' k S'
   shows-reranked m m₁ m' k S S' n up w os x y u b res made =
       let is = opens m m₁ u ∙ w.opening in
@@ -122,7 +121,7 @@ module _ {B O E : Type 0} (bl : Ghosts B BidRank) (ol : Ghosts O OfferRank) (el 
       record {
         opening = opening-reranked bl ol el m₁ m' made ∙ is;
         board = ap (λ (v : Held). board_of v) made.same.board ∙ b;
-        reserves = subst (λ v. Reserved S'.hidden S'.board.orders (items v)) (sym made.same.reserves) res;
+        reserves = subst (λ v. Reserved S'.hidden S'.board.orders v.items) (sym made.same.reserves) res;
         queued = record {
           bids = subst (λ (v : Board). Queues-bids m' v) b bids;
           offers = subst (λ (v : Board). Queues-offers m' v) b offers;

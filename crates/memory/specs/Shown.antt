@@ -9,7 +9,6 @@ use Rattle.market.specs.declared.rank.OfferRank.{OfferRank}
 use Rattle.market.specs.declared.rank.EndTime.{EndTime}
 use Rattle.rules.specs.Board.{Opening, Board, State, on}
 use Rattle.rules.specs.Refusing.{ending}
-use Rattle.table.specs.Items.{items}
 use Rattle.board.specs.Memory.{board_of, Reserved}
 use Rattle.board.specs.EndTimes.{end_time}
 use Rattle.queues.specs.Lists.{Lists}
@@ -34,7 +33,7 @@ module _ {B O E : Type 0} (bl : Ghosts B BidRank) (ol : Ghosts O OfferRank) (el 
   pub record Shows (m : Memory B O E) (k : Opening) (S : State) : Type 0 where
     pub opening : opening_of m ≡ k
     pub board : board_of m.board ≡ S.board
-    pub reserves : Reserved S.hidden S.board.orders (items m.reserves)
+    pub reserves : Reserved S.hidden S.board.orders m.reserves.items
     pub queued : Queued m S.board.orders S.board
 
   -- this is so of the opening and the sound state that the book is in, whichever they are

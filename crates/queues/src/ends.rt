@@ -29,5 +29,5 @@ fn ending(orders: &[Order], first: Option<EndTime>, wished: u64) -> Option<(Orde
 pub fn first_ending<L: Line<EndTime>>(board: &Board, line: &L, wished: u64) -> Option<(Order, u64)>
     ensures { InStep end_ahead (λ b. end_time) L.Line line.now (board_of board.now) → result ≡ expiring wished (board_of board.now).orders }
 {
-    ending(board.orders.items(), line.first(), wished)
+    ending(&board.orders, line.first(), wished)
 }

@@ -32,7 +32,7 @@ fn order_of<T: OfOrder + Copy>(orders: &[Order], entry: Option<T>) -> Option<Ord
 pub fn first_order<T: Ranked, L: Line<T>>(board: &Board, line: &L) -> Option<Order>
     ensures { InStep T.Entry.ahead T.Listed.listing L.Line line.now (board_of board.now) → result ≡ first (on T.Ranked.side) (ahead (board_of board.now)) (board_of board.now).orders }
 {
-    order_of(board.orders.items(), line.first())
+    order_of(&board.orders, line.first())
 }
 
 /// The order of an entry, if it may trade.
@@ -77,5 +77,5 @@ pub fn first_entitled<T: Ranked, L: Line<T>>(board: &Board, line: &L, meets: boo
     ensures { InStep T.Entry.ahead T.Listed.listing L.Line line.now (board_of board.now) → meets ≡ meet (board_of board.now).orders → result ≡ first_entitled (board_of board.now) T.Ranked.side }
 {
     let entitlement = Entitlement::new(board, meets, best_price(line));
-    first_allowed(board.orders.items(), &entitlement, line)
+    first_allowed(&board.orders, &entitlement, line)
 }

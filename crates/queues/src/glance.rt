@@ -10,7 +10,6 @@ use crate::best::best_price;
 use crate::ranked::Ranked;
 use board::board::Board;
 use board::orders::numbered;
-use board::prices::same_price;
 use line::lines::Line;
 use market::answer::Summary;
 use market::order::Order;
@@ -23,7 +22,7 @@ const DEPTH: usize = 8;
 fn is_at<T: Ranked>(rank: &T, price: i32) -> bool
     ensures { result ≡ eq_z (T.Ranked.price rank.now) price }
 {
-    same_price(rank.price(), price)
+    rank.price() == price
 }
 
 /// What the order of an entry displays.
@@ -60,6 +59,6 @@ pub fn summarize<T: Ranked, L: Line<T>>(board: &Board, line: &L) -> Option<Summa
     ensures { InStep T.Entry.ahead T.Listed.listing L.Line line.now (board_of board.now) → result ≡ summary (board_of board.now) T.Ranked.side }
 {
     let price = best_price(line)?;
-    let size = displayed_at(board.orders.items(), line, price);
+    let size = displayed_at(&board.orders, line, price);
     Some(Summary { price, size })
 }

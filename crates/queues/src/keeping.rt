@@ -60,7 +60,7 @@ pub fn refill<T: Listed, L: Line<T>>(line: &mut L, board: &Board)
     ensures { Refills T.Entry.ahead T.Listed.mine T.Listed.listing L.Line line.old line.new (board_of board.now) }
 {
     line.clear();
-    let orders = board.orders.items();
+    let orders = board.orders.as_slice();
     for order in orders {
         put_entry(line, T::of(board, order));
     }

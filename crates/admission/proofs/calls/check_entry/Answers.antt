@@ -118,9 +118,9 @@ returns-in_err-check_orders c = λ k e l.
     answers _ c.from_residual-in_err-check_orders.ensures.1
     (upto 7 (entry_tests k b x (is_size k x.reserve)) _ (quiet, (trader, (price, (sizes, (end, (own, (writes, (f.0, ap Book f.1)))))))))
 
-pub returns-in_err-check_lines : goal.returns-in_err-check_lines
+pub returns-in_err-refused_if : goal.returns-in_err-refused_if
 unfolding entry_refusal entry_tests
-returns-in_err-check_lines c = λ k e l.
+returns-in_err-refused_if c = λ k e l.
     let b = board_of c.args.board.now in
     let x = c.args.order.now in
     let fits : SFits w32 x.price = search rules in
@@ -134,8 +134,8 @@ returns-in_err-check_lines c = λ k e l.
     let own = ap (own_meets b.orders x.trader x.side) paid ∙ passed-at (own_meets b.orders x.trader x.side) _ _ fits' c.in_ok-check_own.ensures in
     let writes = passed _ _ c.in_ok-check_writes.ensures in
     let orders = passed _ _ c.in_ok-check_orders.ensures in
-    let f = failed _ _ c.in_err-check_lines.ensures in
-    answers _ c.from_residual-in_err-check_lines.ensures.1
+    let f = failed _ _ c.in_err-refused_if.ensures in
+    answers _ c.from_residual-in_err-refused_if.ensures.1
     (upto 8 (entry_tests k b x (is_size k x.reserve)) _ (quiet, (trader, (price, (sizes, (end, (own, (writes, (orders, (sym l ∙ f.0, ap Line f.1))))))))))
 
 pub returns : goal.returns
@@ -154,5 +154,5 @@ returns c = λ k e l.
     let own = ap (own_meets b.orders x.trader x.side) paid ∙ passed-at (own_meets b.orders x.trader x.side) _ _ fits' c.in_ok-check_own.ensures in
     let writes = passed _ _ c.in_ok-check_writes.ensures in
     let orders = passed _ _ c.in_ok-check_orders.ensures in
-    let lines = sym l ∙ passed _ _ c.in_ok-check_lines.ensures in
+    let lines = sym l ∙ passed _ _ c.in_ok-refused_if.ensures in
     none_left (entry_tests k b x (is_size k x.reserve)) (quiet, (trader, (price, (sizes, (end, (own, (writes, (orders, (lines, tt)))))))))

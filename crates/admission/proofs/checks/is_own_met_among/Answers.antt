@@ -1,24 +1,20 @@
-use Rattle.std.proofs.Common.{sym, ap, ◌∙◌, w32}
+use Rattle.std.proofs.Common.{sym, ap, ◌∙◌, ℕ, ℤ, Bool, ◌&&◌, eqb, w32, rules}
 use Rattle.std.proofs.lemmas.Int.{to_z-of_z}
-use Rattle.rules.specs.Refusing.{own_meets}
-use Rattle.board.proofs.Scans.{any-yes, any-no, any-end}
+use borrow.Author.Tests.{tests}
+use Rattle.market.specs.declared.order.Side.{Side}
+use Rattle.market.specs.declared.order.Order.{Order}
+use Rattle.rules.specs.Board.{on, other}
+use Rattle.rules.specs.Refusing.{would_meet, own_meets}
+use Rattle.board.proofs.Scans.{passes}
 use Rattle.admission.proofs.checks.is_own_met_among.Goals as goal
 
-pub loop-order-preserved : goal.loop-order-preserved
-unfolding own_meets
-loop-order-preserved c =
-    c.loop-order.invariant ∙
-    any-no _ c.args.orders.now c.loop-order.order-index _ c.loop-order-test.true (sym c.is_own_met.ensures ∙ c.if-is_own_met.false)
-
-pub returns-then-is_own_met : goal.returns-then-is_own_met
-unfolding own_meets
-returns-then-is_own_met c =
-    sym (ap (own_meets c.args.orders.now c.args.trader c.args.side) (sym (to_z-of_z w32 c.args.price c.ranges.price)) ∙
-    c.loop-order.invariant ∙
-    any-yes _ c.args.orders.now c.loop-order.order-index _ c.loop-order-test.true (sym c.is_own_met.ensures ∙ c.if-is_own_met.true))
+abbrev test : ℕ → Side → ℤ → Order → Bool
+test t s p o = eqb o.trader t && (on (other s) o && would_meet s p o.price)
 
 pub returns : goal.returns
 unfolding own_meets
 returns c =
-    sym (ap (own_meets c.args.orders.now c.args.trader c.args.side) (sym (to_z-of_z w32 c.args.price c.ranges.price)) ∙
-    c.loop-order.invariant ∙ any-end _ c.args.orders.now c.loop-order.order-index c.loop-order-test.false)
+    let seat = c.args.seat in
+    let os = c.args.orders.now in
+    passes (test seat.trader seat.side c.args.price) _ _ os c.iter.ensures.rest c.any.ensures.ran
+    (λ x q k. search (rules, tests)) (λ x q k. search (rules, tests))

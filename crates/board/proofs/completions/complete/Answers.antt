@@ -2,10 +2,10 @@ use Rattle.std.proofs.Common.{rules}
 use Rattle.rules.specs.Privileges.{completed}
 use Rattle.board.proofs.completions.complete.Goals as goal
 
-pub returns-in-None : goal.returns-in-None
+pub returns-then-is_none : goal.returns-then-is_none
 unfolding completed
-returns-in-None c = search rules
+returns-then-is_none c = search rules
 
-pub returns-in_default : goal.returns-in_default
+pub returns-else-is_none : goal.returns-else-is_none
 unfolding completed
-returns-in_default c = search rules
+returns-else-is_none c = search rules

@@ -1,21 +1,20 @@
-use Rattle.std.proofs.Common.{true, sym, ap, ◌∙◌, arith}
+use Rattle.std.proofs.Common.{◌≡◌, ℕ, Bool, true, ◌&&◌, Option, None, reverse, filter, fold, rules, ◌∙◌}
+use Rattle.market.specs.declared.order.Order.{Order}
+use Rattle.market.specs.declared.order.Side.{Side}
 use Rattle.rules.specs.Base.{contest}
-use Rattle.rules.specs.Privileges.{filled_sooner}
-use Rattle.board.proofs.Scans.{first-yes, first-no, first-all, first-end}
+use Rattle.rules.specs.Board.{of_trader}
+use Rattle.rules.specs.Privileges.{in_part, filled_sooner}
+use Rattle.board.proofs.Scans.{firsts}
 use Rattle.board.proofs.earning.first_filled.Goals as goal
 
-pub loop-i-init : goal.loop-i-init
-loop-i-init c = sym (first-end _ _ c.args.orders.now _ (omega arith))
+abbrev test : ℕ → Side → Order → Bool
+test t s o = of_trader t s o && in_part o
 
-pub loop-i-preserved : goal.loop-i-preserved
-loop-i-preserved c =
-    c.loop-i.invariant ∙
-    sym (first-no _ _ c.args.orders.now c.loop-i.i _ c.loop-i-test.true c.loop-i.auto.i (sym c.is_filled_of.ensures ∙ c.if-is_filled_of.false))
-
-pub loop-i-preserved-then-is_filled_of : goal.loop-i-preserved-then-is_filled_of
-loop-i-preserved-then-is_filled_of c =
-    c.filled_first-found.ensures ∙ ap (contest true filled_sooner _) c.loop-i.invariant ∙
-    sym (first-yes _ _ c.args.orders.now c.loop-i.i _ c.loop-i-test.true c.loop-i.auto.i (sym c.is_filled_of.ensures ∙ c.if-is_filled_of.true))
+abbrev better : Option Order → Order → Option Order
+better r o = contest true filled_sooner o r
 
 pub returns : goal.returns
-returns c = first-all _ _ c.args.orders.now c.loop-i.i c.loop-i-test.false c.loop-i.invariant
+returns c =
+    let p = test c.args.seat.trader c.args.seat.side in
+    let os = c.args.orders.now in
+    let met : c.fold.result ≡ fold better None (filter p (reverse os)) = search rules in met ∙ firsts p filled_sooner os

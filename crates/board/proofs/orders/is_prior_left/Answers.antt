@@ -1,17 +1,15 @@
-use Rattle.std.proofs.Common.{sym, ◌∙◌}
+use Rattle.std.proofs.Common.{Bool, rules}
+use borrow.Author.Tests.{tests}
+use Rattle.market.specs.declared.order.Order.{Order}
 use Rattle.rules.specs.Entitlement.{prior_left}
-use Rattle.board.proofs.Scans.{any-yes, any-no, any-end}
+use Rattle.board.proofs.Scans.{passes}
 use Rattle.board.proofs.orders.is_prior_left.Goals as goal
 
-pub loop-order-preserved : goal.loop-order-preserved
-loop-order-preserved c =
-    c.loop-order.invariant ∙ any-no _ c.args.orders.now c.loop-order.order-index _ c.loop-order-test.true c.if-order.false
-
-pub returns-then-order : goal.returns-then-order
-unfolding prior_left
-returns-then-order c =
-    sym (c.loop-order.invariant ∙ any-yes _ c.args.orders.now c.loop-order.order-index _ c.loop-order-test.true c.if-order.true)
+abbrev test : Order → Bool
+test o = o.prior
 
 pub returns : goal.returns
 unfolding prior_left
-returns c = sym (c.loop-order.invariant ∙ any-end _ c.args.orders.now c.loop-order.order-index c.loop-order-test.false)
+returns c =
+    passes test _ _ c.args.orders.now c.iter.ensures.rest c.any.ensures.ran
+    (λ x q k. search (rules, tests)) (λ x q k. search (rules, tests))

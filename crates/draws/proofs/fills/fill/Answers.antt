@@ -1,6 +1,5 @@
 use Rattle.std.proofs.Common.{◌≡◌, ◌+◌, ◌^◌, ◌<◌, refl, ◌∙◌, arith, w32, SFits, rules}
 use Rattle.std.proofs.lemmas.Int.{to_z-of_z}
-use Rattle.table.specs.Items.{items}
 use Rattle.rules.specs.Fills.{size_of}
 use Rattle.board.specs.Memory.{board_of}
 use Rattle.draws.proofs.Boards.{same-board}
@@ -26,6 +25,6 @@ returns c k m h w a i j d e =
     let x = c.settle-bid_left.result in
     let y = c.settle-offer_left.result in
     let told = c.session_after-board.ensures in
-    filled h b bid offer size n d b' b'' (items c.settle-bid_left.new.reserves) (items c.settle-offer_left.new.reserves) x y one two counted
+    filled h b bid offer size n d b' b'' c.settle-bid_left.new.reserves.items c.settle-offer_left.new.reserves.items x y one two counted
     c.min-size.ensures _ (to_z-of_z w32 c.fill_price-price.result fits ∙ c.fill_price-price.ensures) _ _ c.displayed_of.ensures
     c.displayed_of-2.ensures _ (same-board refl refl told refl refl) _ refl

@@ -3,7 +3,7 @@ use Rattle.market.specs.declared.state.Clock.{Clock}
 use Rattle.rules.specs.Board.{Board}
 use Rattle.rules.specs.Draws.{reaching, removed_board}
 use Rattle.board.specs.Memory.{board_of}
-use Rattle.draws.specs.Removals.{struck_board}
+use Rattle.board.specs.Struck.{struck_board}
 use Rattle.draws.proofs.removals.remove.Goals as goal
 
 abbrev with_clock : Clock → Board → Board
@@ -24,7 +24,7 @@ returns c =
     let t = c.args.time in
     record {
       board = λ k m a.
-          ap (λ x. with_clock x (board_of c.strike.new.board)) c.reach.ensures ∙
+          ap (λ x. with_clock x (board_of c.strike.new.self)) c.reach.ensures ∙
           ap (λ (b : Board). with_clock (reaching t b.clock) b) (c.strike.ensures.board k m a);
-      reserves = λ k m a. c.strike.ensures.reserves k m a;
+      reserves = λ k m a h. c.strike.ensures.reserves k m h a;
     }

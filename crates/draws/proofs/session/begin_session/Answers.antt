@@ -1,6 +1,5 @@
 use Rattle.std.proofs.Common.{refl, ap, ◌∙◌, w32, SFits, rules}
 use Rattle.std.proofs.lemmas.Int.{to_z-of_z}
-use Rattle.table.specs.Items.{items}
 use Rattle.rules.specs.Base.{each}
 use Rattle.rules.specs.Draws.{started, begun_board}
 use Rattle.draws.proofs.Boards.{same-board}
@@ -12,5 +11,5 @@ returns c =
     let fits : SFits w32 c.args.passive.now.price = search rules in
     let p = to_z-of_z w32 c.args.passive.now.price fits in
     same-board
-    (c.start_orders.ensures ∙ ap (λ q. each (started c.args.trigger.now.number c.args.passive.now.side q) (items c.args.board.now.orders)) p)
-    refl (rw p) c.no_completions-board.ensures c.clear.ensures
+    (c.start_orders.ensures ∙ ap (λ q. each (started c.args.trigger.now.number c.args.passive.now.side q) c.args.board.now.orders.items) p)
+    refl (rw p) c.new-board.ensures c.clear.ensures

@@ -1,38 +1,30 @@
-use Rattle.std.proofs.Common.{◌<◌, List, length, get_or, set, refl, ap, ◌∙◌, arith, w32, to_z, of_z}
-use Rattle.std.proofs.lemmas.List.{length-set, get_or_default}
+use Rattle.std.proofs.Common.{◌≡◌, ◌<◌, length, get_or, set, ap, ◌∙◌, arith, w32, to_z, of_z}
+use Rattle.std.proofs.lemmas.List.{get_or_default}
 use Rattle.std.proofs.lemmas.List.Edits.{map_over_more}
 use Rattle.std.proofs.lemmas.Int.{to_z-of_z}
-use Rattle.market.specs.declared.order.Order.{Order}
-use Rattle.table.specs.Items.{items}
+use Rattle.arrayvec.proofs.ArrayVecLemmas.{items-with_items}
 use Rattle.rules.specs.Base.{each}
 use Rattle.rules.specs.Draws.{started}
 use Rattle.draws.proofs.Lists.{mapped}
 use Rattle.draws.proofs.session.start_orders.Goals as goal
 
-pub loop-at-init : goal.loop-at-init
-loop-at-init c = (refl, refl)
-
-pub bounds-items-at : goal.bounds-items-at
-bounds-items-at c =
-    omega (arith, ap length c.items.ensures.value, c.loop-at.invariant.0, c.len-at-end.ensures.value, c.loop-at-test.true)
-
-pub loop-at-preserved : goal.loop-at-preserved
-loop-at-preserved c =
-    let at = c.loop-at.at in
-    let xs = items c.args.orders.now in
-    let ys = items c.loop-at.orders in
+pub loop-order-preserved : goal.loop-order-preserved
+loop-order-preserved c =
+    let i = c.loop-order.order-index in
+    let xs = c.args.orders.now.items in
+    let ys = c.loop-order.order-items in
     let f = started c.args.trigger c.args.passive (to_z w32 (of_z w32 c.args.price)) in
-    let inside : at < length xs = omega (arith, c.len-at-end.ensures.value, c.loop-at-test.true) in
-    let within : at < length ys = omega (arith, c.loop-at.invariant.0, c.len-at-end.ensures.value, c.loop-at-test.true) in
-    let is = c.started.ensures ∙ ap (λ (zs : List Order). f (get_or zs at _)) c.items.ensures.value in (
-      ap length c.set.ensures ∙ length-set ys at c.started.result ∙ c.loop-at.invariant.0,
-      c.set.ensures ∙ ap (set ys at) is ∙
-          map_over_more f xs ys at (get_or ys at _) inside c.loop-at.invariant.1 (get_or_default ys at _ _ within),
-    )
+    let len : length ys ≡ length xs = c.loop-order.auto.order-items ∙ ap length c.deref_mut-order-items.ensures.value in
+    let inside : i < length xs = omega (arith, len, c.loop-order-test.true) in
+    let within : i < length ys = omega (arith, c.loop-order-test.true) in
+    ap (set ys i) c.started.ensures ∙ map_over_more f xs ys i (get_or ys i _) inside c.loop-order.invariant (get_or_default ys i _ _ within)
 
 pub returns : goal.returns
 returns c =
-    let xs = items c.args.orders.now in
+    let xs = c.args.orders.now.items in
+    let ys = c.loop-order.order-items in
     let p = to_z-of_z w32 c.args.price c.ranges.price in
-    c.loop-at.invariant.1 ∙ mapped _ xs c.loop-at.at (omega (arith, c.len-at-end.ensures.value, c.loop-at-test.false)) ∙
+    let before = ap length c.deref_mut-order-items.ensures.value in
+    let all = c.loop-order.invariant ∙ mapped _ xs c.loop-order.order-index (omega (arith, before, c.loop-order-test.false)) in
+    items-with_items c.args.orders.now ys (c.loop-order.auto.order-items ∙ before) ∙ all ∙
     ap (λ q. each (started c.args.trigger c.args.passive q) xs) p

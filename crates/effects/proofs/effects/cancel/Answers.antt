@@ -1,7 +1,7 @@
 use Rattle.std.proofs.Common.{refl, ap, ◌∙◌}
 use Rattle.rules.specs.Board.{Board}
 use Rattle.rules.specs.Calls.{awaiting, cancelled_board}
-use Rattle.effects.specs.Effects.{struck_board}
+use Rattle.board.specs.Struck.{struck_board}
 use Rattle.board.proofs.Boards.{same-board}
 use Rattle.effects.proofs.effects.cancel.Goals as goal
 

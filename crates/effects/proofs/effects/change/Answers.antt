@@ -2,7 +2,6 @@ use Rattle.std.proofs.Common.{◌≡◌, ℕ, ◌+◌, Bool, cond, List, Some, O
 use Rattle.std.proofs.lemmas.Int.{to_z-of_z}
 use Rattle.market.specs.declared.order.Order.{Order}
 use Rattle.market.specs.declared.state.Counters.{Counters}
-use Rattle.table.specs.Items.{items}
 use Rattle.rules.specs.Base.{each, write}
 use Rattle.rules.specs.Board.{Board}
 use Rattle.rules.specs.Fills.{replace}
@@ -10,10 +9,10 @@ use Rattle.rules.specs.Rising.{Ascends}
 use Rattle.rules.specs.Calls.{takes_stamp, changed}
 use Rattle.board.specs.Memory.{board_of}
 use Rattle.board.specs.Positions.{position_of}
-use Rattle.effects.specs.Rows.{put_at}
+use Rattle.board.specs.Rows.{put_at}
 use Rattle.effects.specs.Effects.{forfeited_board}
 use Rattle.board.proofs.Boards.{same-board}
-use Rattle.effects.proofs.Placed.{reserve_of, put-position, reserves-put}
+use Rattle.board.proofs.Placed.{reserve_of, put-position, reserves-put}
 use Rattle.effects.proofs.Written.{one_more, same-counts, with_orders, changed-board, changed-number}
 use Rattle.effects.proofs.effects.change.Goals as goal
 
@@ -26,13 +25,13 @@ returns c =
     let n = o.number in
     let s = b.counters.stamp in
     let os = b.orders in
-    let rs = items c.args.reserves.now in
+    let rs = c.args.reserves.now.items in
     let after = c.changed_order-after.result in
     let fits : SFits w32 d.price = search rules in
-    let written : List Order = items c.put.new.table in
+    let written : List Order = c.put.new.rows.items in
     let is : after ≡ changed d (takes_stamp d o) s o =
     c.changed_order-after.ensures ∙ ap (λ (q : Bool). changed d q s o) c.takes_stamp-anew.ensures in
-    let at : c.position-row.result ≡ position_of n os = c.position-row.ensures ∙ ap (position_of n) c.items.ensures.value in
+    let at : c.position-row.result ≡ position_of n os = c.position-row.ensures ∙ ap (position_of n) c.deref.ensures.0 in
     let placed : (k m : ℕ) → Ascends k m os → written ≡ replace n (Some after) os =
     λ k m a. c.put.ensures ∙ ap (λ (r : Option ℕ). put_at r (Some after) os) at ∙ put-position n (Some after) k m os a in
     let forfeited : x ≡ forfeited_board (with_orders written b) o d.price =

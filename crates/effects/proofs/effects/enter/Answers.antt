@@ -1,12 +1,11 @@
 use Rattle.std.proofs.Common.{◌≡◌, ℕ, ◌<◌, List, [], ◌∷◌, ◌++◌, length, sym, refl, ap, ◌∙◌, arith}
 use Rattle.market.specs.declared.order.Order.{Order}
 use Rattle.market.specs.declared.state.Counters.{Counters}
-use Rattle.table.specs.Items.{items}
 use Rattle.rules.specs.Base.{each, write}
 use Rattle.rules.specs.Board.{Board}
 use Rattle.board.specs.Memory.{board_of}
 use Rattle.board.proofs.Boards.{same-board}
-use Rattle.effects.proofs.Placed.{reserve_of}
+use Rattle.board.proofs.Placed.{reserve_of}
 use Rattle.effects.proofs.Written.{one_more, same-counts, pushed, entered-board, entered-number, reserves-more, each-length}
 use Rattle.effects.proofs.effects.enter.Goals as goal
 
@@ -16,11 +15,11 @@ returns c =
     let x = board_of c.claim.new.board in
     let o = c.new_order-order.result in
     let w = c.args.wanted.now in
-    let rs = items c.args.reserves.now in
+    let rs = c.args.reserves.now.items in
     let kept : x.orders ≡ b.orders = ap (λ (y : Board). y.orders) c.claim.ensures in
     let same : x.counters ≡ b.counters = ap (λ (y : Board). y.counters) c.claim.ensures in
-    let grown : length b.orders < 128 → items c.push.new.self ≡ x.orders ++ (o ∷ []) =
-    λ l. pushed x.orders _ o 128 c.push.ensures (omega (arith, ap length kept)) in
+    let grown : length b.orders < 128 → c.try_push.new.self.items ≡ x.orders ++ (o ∷ []) =
+    λ l. pushed c.try_push.result c.try_push.ensures.variant c.try_push.ensures.ok (omega (arith, ap length kept)) in
     record {
       order = c.new_order-order.ensures;
       board = λ bounds l.
@@ -34,5 +33,5 @@ returns c =
           let few : length rs < 128 = omega (arith, ap length e, each-length (reserve_of h) b.orders) in
           ap (each (reserve_of (write n w.reserve h))) (grown l ∙ ap (λ (os : List Order). os ++ (o ∷ [])) kept) ∙
           reserves-more n w.reserve h k b.orders o (entered-number w n b.counters.stamp b c.new_order-order.ensures) a ∙
-          ap (λ (ys : List ℕ). ys ++ (w.reserve ∷ [])) e ∙ sym (pushed rs _ w.reserve 128 c.push-2.ensures few);
+          ap (λ (ys : List ℕ). ys ++ (w.reserve ∷ [])) e ∙ sym (pushed c.try_push-2.result c.try_push-2.ensures.variant c.try_push-2.ensures.ok few);
     }

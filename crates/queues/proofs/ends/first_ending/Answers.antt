@@ -9,6 +9,6 @@ pub returns : goal.returns
 returns g c w =
     let b = board_of c.args.board.now in
     let wished = c.args.wished in
-    c.ending.ensures ∙ ap (λ (os : List Order). ending_by wished os c.first.result) c.items.ensures.value ∙
+    c.ending.ensures ∙ ap (λ (os : List Order). ending_by wished os c.first.result) c.deref.ensures.0 ∙
     ap (ending_by wished b.orders) c.first.ensures ∙
     ends-first 1 w.below b.orders w.rising wished (g.L.Line.entries c.args.line.now) w.lists

@@ -11,7 +11,7 @@ pub loop-order-init : goal.loop-order-init
 loop-order-init g c =
     let e = g.T.Listed.listing (board_of c.args.board.now) in
     let room = g.L.Line.room c.clear.new.self in
-    (refl, ap (λ (xs : List _). filled g.T.Entry.ahead room (each e c.items-orders.result.now) xs) c.clear.ensures.entries)
+    (refl, ap (λ (xs : List _). filled g.T.Entry.ahead room (each e c.as_slice-orders.result.now) xs) c.clear.ensures.entries)
 
 pub loop-order-preserved : goal.loop-order-preserved
 loop-order-preserved g c =
@@ -19,7 +19,7 @@ loop-order-preserved g c =
     let inv = c.loop-order.invariant in
     let p = c.put_entry.ensures in (
       p.room ∙ inv.0,
-      filled_more g.T.Entry.ahead e (g.L.Line.room c.clear.new.self) (g.L.Line.room c.loop-order.line) c.items-orders.result.now c.loop-order.order-index _ c.of.result
+      filled_more g.T.Entry.ahead e (g.L.Line.room c.clear.new.self) (g.L.Line.room c.loop-order.line) c.as_slice-orders.result.now c.loop-order.order-index _ c.of.result
           (g.L.Line.entries c.loop-order.line) (g.L.Line.entries c.put_entry.new.line) _ c.loop-order-test.true c.of.ensures inv.0 p.entries inv.1,
     )
 
@@ -29,10 +29,10 @@ returns g c =
     let b = board_of c.args.board.now in
     let e = g.T.Listed.listing b in
     let inv = c.loop-order.invariant in
-    let os = c.items-orders.result.now in
+    let os = c.as_slice-orders.result.now in
     let r = c.clear.ensures.room in
     refills t g.T.OfOrder.number g.T.Listed.mine g.T.Listed.listing g.met.T.Listed.has g.met.T.Listed.named g.L.Line g.met.L.Line.fits c.args.line.now c.loop-order.line b
     (inv.0 ∙ r)
     (filled-all g.T.Entry.ahead e (g.L.Line.room c.clear.new.self) os c.loop-order.order-index (g.L.Line.entries c.loop-order.line) _ c.loop-order-test.false inv.1 ∙
     ap (λ n. filled g.T.Entry.ahead n (each e os) []) r ∙
-    ap (λ (ps : List Order). filled g.T.Entry.ahead (g.L.Line.room c.args.line.now) (each e ps) []) c.items-orders.ensures.value)
+    ap (λ (ps : List Order). filled g.T.Entry.ahead (g.L.Line.room c.args.line.now) (each e ps) []) c.as_slice-orders.ensures.value)

@@ -1,0 +1,22 @@
+//! An order leaves.
+ghost use Rattle.board.specs.Memory.{board_of};
+ghost use Rattle.board.specs.Struck.{Strikes};
+
+use crate::board::Board;
+use crate::orders::position;
+use crate::rows::put;
+use crate::seat::Seat;
+use arrayvec::ArrayVec;
+use market::order::Order;
+
+impl Board {
+    /// The order leaves the board, and its reserve with it. A Priority 1 that it carried is free again.
+    pub fn strike(&mut self, reserves: &mut ArrayVec<u32, 128>, order: &Order)
+        ensures { Strikes order.now (board_of self.old) (board_of self.new) reserves.old.items reserves.new.items }
+    {
+        let row = position(&self.orders, order.number);
+        put(&mut self.orders, row, None);
+        put(reserves, row, None);
+        self.privileges.free(Seat::of(order), order.number);
+    }
+}
