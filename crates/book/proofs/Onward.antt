@@ -1,8 +1,7 @@
 -- From one state at which a book stands to the next. Assumes nothing.
 use Rattle.std.proofs.Common.{[], ◌∷◌, sym, subst}
 use Rattle.line.specs.declared.lines.Line.{Ghosts}
-use Rattle.market.specs.declared.rank.BidRank.{BidRank}
-use Rattle.market.specs.declared.rank.OfferRank.{OfferRank}
+use Rattle.market.specs.Ranks.{BidRank, OfferRank}
 use Rattle.market.specs.declared.rank.EndTime.{EndTime}
 use Rattle.market.specs.declared.call.Call.{Call}
 use Rattle.market.specs.declared.answer.Answer.{Answer}

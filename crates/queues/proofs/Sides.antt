@@ -1,14 +1,10 @@
 -- The entries of bids, of offers and of ends: who has one, and that there is room for them. Assumes nothing.
-use Rattle.std.proofs.Common.{◌≡◌, ℕ, ◌≤◌, Bool, true, false, ltb, List, Some, None, Option, sym, refl, ap, ◌∙◌}
+use Rattle.std.proofs.Common.{◌≡◌, ℕ, ◌≤◌, Bool, true, false, List, Some, None, Option, sym, refl, ap, rules}
 use Rattle.line.specs.Order.{Order as TotalOrder}
 use Rattle.line.specs.declared.lines.Line.{Ghosts}
-use Rattle.line.proofs.Orders.{lower-on}
-use Rattle.market.specs.Ranks.{bid_ahead, offer_ahead, end_ahead}
-use Rattle.market.specs.Soonest.{lower-self, lower-even, number-self, number-even, number-on}
+use Rattle.market.specs.Ranks.{BidRank, OfferRank, bid_ahead, offer_ahead, end_ahead}
 use Rattle.market.specs.declared.order.Side.TheVariants.{Bid, Offer}
 use Rattle.market.specs.declared.order.Order.{Order}
-use Rattle.market.specs.declared.rank.BidRank.{BidRank}
-use Rattle.market.specs.declared.rank.OfferRank.{OfferRank}
 use Rattle.market.specs.declared.rank.EndTime.{EndTime}
 use Rattle.rules.specs.Base.{is_some, only_if, count}
 use Rattle.rules.specs.Board.{Board, on}
@@ -24,15 +20,7 @@ use Rattle.queues.proofs.Kept.{lists-room}
 
 pub ends-ordered : TotalOrder end_ahead
 ends-ordered =
-    record {
-      irreflexive = λ x. lower-self x.end (ltb x.number x.number) (number-self x.number);
-      total = λ x y h k.
-          let e = lower-even x.end y.end (ltb x.number y.number) (ltb y.number x.number) h k in
-          let n = number-even x.number y.number e.1 e.2 in
-          let make : ℕ → ℕ → EndTime = λ t m. record { end = t; number = m } in
-          ap (λ (t : ℕ). make t x.number) e.0 ∙ ap (make y.end) n;
-      transitive = λ x y z. lower-on (number-on x.number y.number z.number) x.end y.end z.end;
-    }
+    record { irreflexive = λ x. search rules; total = λ x y h k. search rules; transitive = λ x y z h k. search rules }
 
 if_some : {A : Type 0} (q : Bool) (a : A) → is_some (only_if q (Some a)) ≡ q
 if_some true a = refl
@@ -55,11 +43,11 @@ end-has o = go o.end
     go None = refl
     go (Some t) = refl
 
-pub bid-named : (b : Board) → Named (λ (x : BidRank). x.rank.number) (bid_entry b)
-bid-named b o x h = ap (λ (z : BidRank). z.rank.number) (sym (if-is (on Bid o) _ x h))
+pub bid-named : (b : Board) → Named (λ (x : BidRank). x.number) (bid_entry b)
+bid-named b o x h = ap (λ (z : BidRank). z.number) (sym (if-is (on Bid o) _ x h))
 
-pub offer-named : (b : Board) → Named (λ (x : OfferRank). x.rank.number) (offer_entry b)
-offer-named b o x h = ap (λ (z : OfferRank). z.rank.number) (sym (if-is (on Offer o) _ x h))
+pub offer-named : (b : Board) → Named (λ (x : OfferRank). x.number) (offer_entry b)
+offer-named b o x h = ap (λ (z : OfferRank). z.number) (sym (if-is (on Offer o) _ x h))
 
 pub end-named : Named (λ (x : EndTime). x.number) end_time
 end-named o x h = go o.end h
@@ -71,10 +59,10 @@ end-named o x h = go o.end h
 -- a line that lists orders has room for all of its own
 module _ {L : Type 0} (l : L) (b : Board) (k m : ℕ) (os : List Order) (a : Ascends k m os) where
   pub bids-room : (g : Ghosts L BidRank) → Lists bid_ahead g l os (bid_entry b) → count (on Bid) os ≤ g.room l
-  bids-room g = lists-room bids-ordered (λ x. x.rank.number) (on Bid) bid_entry bid-has bid-named g l b k m os a
+  bids-room g = lists-room bids-ordered (λ x. x.number) (on Bid) bid_entry bid-has bid-named g l b k m os a
 
   pub offers-room : (g : Ghosts L OfferRank) → Lists offer_ahead g l os (offer_entry b) → count (on Offer) os ≤ g.room l
-  offers-room g = lists-room offers-ordered (λ x. x.rank.number) (on Offer) offer_entry offer-has offer-named g l b k m os a
+  offers-room g = lists-room offers-ordered (λ x. x.number) (on Offer) offer_entry offer-has offer-named g l b k m os a
 
   pub ends-room : (g : Ghosts L EndTime) → Lists end_ahead g l os end_time → count ending os ≤ g.room l
   ends-room g = lists-room ends-ordered (λ x. x.number) ending (λ c. end_time) (λ c. end-has) (λ c. end-named) g l b k m os a
