@@ -1,37 +1,33 @@
 //! Where orders stand in the queues.
 ghost use Rattle.std.specs.Prelude.{◌≡◌};
 ghost use Rattle.rules.specs.Base.{names};
-ghost use Rattle.rules.specs.Standings.{plain, privileged, favoured, last_on, standing, bid_rank, offer_rank};
+ghost use Rattle.rules.specs.Standings.{plain, privileged, favoured, last_on, standing, rank_of};
 ghost use Rattle.board.specs.Memory.{board_of};
 ghost use Rattle.board.specs.EndTimes.{end_time};
 
 use crate::board::Board;
 use crate::seat::Seat;
 use market::order::{Order, Side};
-use market::rank::{BidRank, Class, EndTime, OfferRank, Rank, Standing};
+use market::price::SidePrice;
+use market::rank::{EndTime, Rank};
+use market::standing::Standing;
 use market::state::{Carrier, Phase, Priority, Privilege, Session};
+use std::cmp::Reverse;
 
 /// By its stamp alone.
 fn plain(order: &Order) -> Standing
     ensures { result ≡ plain order.now }
 {
-    Standing {
-        class: Class::Plain,
-        place: order.stamp,
-    }
+    Standing::Plain(order.stamp)
 }
 
 /// By what was earned.
 fn by_privilege(privilege: &Privilege) -> Standing
     ensures { result ≡ privileged privilege.now.priority privilege.now.earned }
 {
-    let class = match privilege.priority {
-        Priority::First => Class::First,
-        Priority::Second => Class::Second,
-    };
-    Standing {
-        class,
-        place: privilege.earned,
+    match privilege.priority {
+        Priority::First => Standing::First(privilege.earned),
+        Priority::Second => Standing::Second(Reverse(privilege.earned)),
     }
 }
 
@@ -56,10 +52,7 @@ fn is_last(session: &Session, side: Side, trader: u8) -> bool
         Side::Bid => session.buyer,
         Side::Offer => session.seller,
     };
-    match last {
-        Some(last) => last == trader,
-        None => false,
-    }
+    last == Some(trader)
 }
 
 /// Where the order stands among those at its price.
@@ -68,39 +61,21 @@ pub fn standing_of(board: &Board, order: &Order) -> Standing
 {
     match board.phase {
         Phase::Open | Phase::Timed | Phase::Rolling => plain(order),
-        Phase::Fbs if is_last(&board.session, order.side, order.trader) => Standing {
-            class: Class::Last,
-            place: order.stamp,
-        },
+        Phase::Fbs if is_last(&board.session, order.side, order.trader) => Standing::Last(
+            order.stamp,
+        ),
         Phase::Fbs => by_carrier(board.privileges.of(Seat::of(order)), order),
     }
 }
 
-/// The rank of a bid.
-pub fn bid_rank(board: &Board, order: &Order) -> BidRank
-    ensures { result ≡ bid_rank (board_of board.now) order.now }
+/// The rank of an order on its side.
+pub fn rank_of<P: SidePrice>(board: &Board, order: &Order) -> Rank<P>
+    ensures { result ≡ rank_of (P.of order.now.price) (board_of board.now) order.now }
 {
-    let standing = standing_of(board, order);
-    BidRank {
-        rank: Rank {
-            price: order.price,
-            standing,
-            number: order.number,
-        },
-    }
-}
-
-/// The rank of an offer.
-pub fn offer_rank(board: &Board, order: &Order) -> OfferRank
-    ensures { result ≡ offer_rank (board_of board.now) order.now }
-{
-    let standing = standing_of(board, order);
-    OfferRank {
-        rank: Rank {
-            price: order.price,
-            standing,
-            number: order.number,
-        },
+    Rank {
+        price: P::of(order.price),
+        standing: standing_of(board, order),
+        number: order.number,
     }
 }
 

@@ -2,8 +2,7 @@
 use Rattle.std.proofs.Common.{◌≡◌, IsErrAnd, Some, None, Ok, Option, Result, sym, refl, ap, ◌∙◌, subst}
 use Rattle.line.specs.declared.lines.Line.{Ghosts}
 use Rattle.market.specs.declared.order.Order.{Order}
-use Rattle.market.specs.declared.rank.BidRank.{BidRank}
-use Rattle.market.specs.declared.rank.OfferRank.{OfferRank}
+use Rattle.market.specs.Ranks.{BidRank, OfferRank}
 use Rattle.market.specs.declared.rank.EndTime.{EndTime}
 use Rattle.market.specs.declared.call.OrderCancel.{OrderCancel}
 use Rattle.market.specs.declared.call.Call.TheVariants.{Cancel}

@@ -5,8 +5,7 @@ use Rattle.market.specs.declared.settings.Settings.{Settings}
 use Rattle.market.specs.declared.order.Order.{Order}
 use Rattle.market.specs.declared.state.Phase.{Phase}
 use Rattle.market.specs.declared.state.Privilege.{Privilege}
-use Rattle.market.specs.declared.rank.BidRank.{BidRank}
-use Rattle.market.specs.declared.rank.OfferRank.{OfferRank}
+use Rattle.market.specs.Ranks.{BidRank, OfferRank}
 use Rattle.market.specs.declared.rank.EndTime.{EndTime}
 use Rattle.market.specs.declared.call.OrderChange.{OrderChange}
 use Rattle.market.specs.declared.call.Call.TheVariants.{Change}

@@ -2,8 +2,7 @@
 use Rattle.std.proofs.Common.{◌≡◌, IsErrAnd, Some, None, Ok, Err, Option, Result, sym, ap, subst}
 use Rattle.line.specs.declared.lines.Line.{Ghosts}
 use Rattle.market.specs.Answers.{Answer}
-use Rattle.market.specs.declared.rank.BidRank.{BidRank}
-use Rattle.market.specs.declared.rank.OfferRank.{OfferRank}
+use Rattle.market.specs.Ranks.{BidRank, OfferRank}
 use Rattle.market.specs.declared.rank.EndTime.{EndTime}
 use Rattle.market.specs.declared.refusal.Refusal.{Refusal}
 use Rattle.rules.specs.Board.{Opening, State}

@@ -1,8 +1,7 @@
 -- A tick leaves orders and lines alone. Assumes nothing.
 use Rattle.std.proofs.Common.{◌≡◌, ℕ, IsErrAnd, Some, None, Ok, Result, sym, refl, ap, ◌∙◌}
 use Rattle.line.specs.declared.lines.Line.{Ghosts}
-use Rattle.market.specs.declared.rank.BidRank.{BidRank}
-use Rattle.market.specs.declared.rank.OfferRank.{OfferRank}
+use Rattle.market.specs.Ranks.{BidRank, OfferRank}
 use Rattle.market.specs.declared.rank.EndTime.{EndTime}
 use Rattle.market.specs.declared.call.Call.TheVariants.{Tick}
 use Rattle.market.specs.declared.refusal.Refusal.{Refusal}

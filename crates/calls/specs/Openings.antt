@@ -1,8 +1,7 @@
 -- What a book is opened with. Assumes nothing.
 use Rattle.line.specs.declared.lines.Line.{Ghosts}
 use Rattle.market.specs.declared.settings.Settings.{Settings}
-use Rattle.market.specs.declared.rank.BidRank.{BidRank}
-use Rattle.market.specs.declared.rank.OfferRank.{OfferRank}
+use Rattle.market.specs.Ranks.{BidRank, OfferRank}
 use Rattle.market.specs.declared.rank.EndTime.{EndTime}
 use Rattle.rules.specs.Board.{Opening}
 

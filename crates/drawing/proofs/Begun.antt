@@ -8,15 +8,14 @@ use Rattle.market.specs.declared.order.Order.{Order}
 use Rattle.market.specs.declared.state.Phase.{Phase}
 use Rattle.market.specs.declared.state.Phase.TheVariants.{Open, Timed, Rolling, Fbs}
 use Rattle.market.specs.declared.record.Record.TheVariants.{Session}
-use Rattle.market.specs.declared.rank.Standing.{Standing}
+use Rattle.market.specs.declared.standing.Standing.{Standing}
 use Rattle.market.specs.declared.rank.Rank.{Rank}
-use Rattle.market.specs.declared.rank.BidRank.{BidRank}
-use Rattle.market.specs.declared.rank.OfferRank.{OfferRank}
+use Rattle.market.specs.Ranks.{BidRank, OfferRank}
 use Rattle.market.specs.declared.rank.EndTime.{EndTime}
 use Rattle.rules.specs.Base.{is_some, only_if, each}
 use Rattle.rules.specs.Board.{Opening, Board, State, on, meet, is_fbs, is_open, numbered}
 use Rattle.rules.specs.Fills.{replacing, replace}
-use Rattle.rules.specs.Standings.{standing, rank_of}
+use Rattle.rules.specs.Standings.{standing}
 use Rattle.rules.specs.Draws.{begins, incoming_of, decided, started, begun_board, record_of, board_after, hidden_after}
 use Rattle.rules.specs.Members.{In}
 use Rattle.rules.specs.Rising.{Ascends}
@@ -26,7 +25,7 @@ use Rattle.rules.proofs.Reasons.{Begins, Why, why}
 use Rattle.board.specs.EndTimes.{end_time}
 use Rattle.board.specs.Memory.{board_of}
 use Rattle.board.specs.declared.board.Board.{Board as Held}
-use Rattle.queues.specs.Entries.{bid_entry, offer_entry}
+use Rattle.queues.specs.Entries.{bid_entry, offer_entry, side_entry}
 use Rattle.queues.proofs.Kept.{lists-alike}
 use Rattle.invariants.specs.Sound.{Sound}
 use Rattle.memory.specs.declared.memory.Memory.{Memory}
@@ -85,24 +84,13 @@ module _ {X : Type 0} (e : Order → X) (f : Order → Order) where
 -- ---- entries as a session starts
 
 -- an order that is not the trigger keeps its price and its stamp, by which alone it stands
-rank-kept : (b : Board) (n : ℕ) (s : Side) (p : ℤ) (o : Order) → is_fbs b.phase ≡ false → numbered n o ≡ false → rank_of b (started n s p o) ≡ rank_of b o
+entry-kept : {P : Type 0} (side : Side) (of : ℤ → P) (b : Board) (n : ℕ) (s : Side) (p : ℤ) (o : Order) → is_fbs b.phase ≡ false →
+    numbered n o ≡ false → side_entry side of b (started n s p o) ≡ side_entry side of b o
 unfolding started
-rank-kept b n s p o h is =
-    let make : ℤ → Standing → Rank = λ q t. record { price = q; standing = t; number = o.number } in
+entry-kept {P} side of b n s p o h is =
+    let make : ℤ → Standing → Option (Rank P) = λ q t. only_if (on side o) (Some (record { price = of q; standing = t; number = o.number })) in
     ap (λ q. make q (standing b (started n s p o))) (cond-false (numbered n o) p o.price is) ∙
     ap (make o.price) (plainly b (started n s p o) h ∙ sym (plainly b o h))
-
-bid-kept : (b : Board) (n : ℕ) (s : Side) (p : ℤ) (o : Order) → is_fbs b.phase ≡ false → numbered n o ≡ false →
-    bid_entry b (started n s p o) ≡ bid_entry b o
-unfolding started
-bid-kept b n s p o h is =
-    ap (λ (r : Rank). let x : BidRank = record { rank = r } in only_if (on Bid o) (Some x)) (rank-kept b n s p o h is)
-
-offer-kept : (b : Board) (n : ℕ) (s : Side) (p : ℤ) (o : Order) → is_fbs b.phase ≡ false → numbered n o ≡ false →
-    offer_entry b (started n s p o) ≡ offer_entry b o
-unfolding started
-offer-kept b n s p o h is =
-    ap (λ (r : Rank). let x : OfferRank = record { rank = r } in only_if (on Offer o) (Some x)) (rank-kept b n s p o h is)
 
 -- ---- the book
 
@@ -117,9 +105,9 @@ module _ {B O E : Type 0} (bl : Ghosts B BidRank) (ol : Ghosts O OfferRank) (el 
       let one : (o : Order) → In o os → o.number ≡ x.number → o ≡ x = λ o i e. ascends-unique 1 n os o x up i here e in
       record {
         bids = lists-alike bl m.bids before (each f os) (bid_entry b) (bid_entry b)
-            (each-replaced (bid_entry b) f x os one (λ o is. bid-kept b x.number s p o h is)) q.bids;
+            (each-replaced (bid_entry b) f x os one (λ o is. entry-kept Bid (λ q. record { 0 = q }) b x.number s p o h is)) q.bids;
         offers = lists-alike ol m.offers before (each f os) (offer_entry b) (offer_entry b)
-            (each-replaced (offer_entry b) f x os one (λ o is. offer-kept b x.number s p o h is)) q.offers;
+            (each-replaced (offer_entry b) f x os one (λ o is. entry-kept Offer (λ q. q) b x.number s p o h is)) q.offers;
         ends = lists-alike el m.ends before (each f os) end_time end_time (each-replaced end_time f x os one (λ o is. refl)) q.ends;
       }
 

@@ -1,8 +1,7 @@
 -- A book in memory with another board. Assumes nothing.
 use Rattle.std.proofs.Common.{refl}
 use Rattle.line.specs.declared.lines.Line.{Ghosts}
-use Rattle.market.specs.declared.rank.BidRank.{BidRank}
-use Rattle.market.specs.declared.rank.OfferRank.{OfferRank}
+use Rattle.market.specs.Ranks.{BidRank, OfferRank}
 use Rattle.market.specs.declared.rank.EndTime.{EndTime}
 use Rattle.board.specs.declared.board.Board.{Board as Held}
 use Rattle.memory.specs.declared.memory.Memory.{Memory}

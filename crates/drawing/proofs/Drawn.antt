@@ -7,8 +7,7 @@ use Rattle.market.specs.declared.state.Phase.{Phase}
 use Rattle.market.specs.declared.state.Phase.TheVariants.{Open}
 use Rattle.market.specs.declared.record.Record.{Record}
 use Rattle.market.specs.declared.answer.Accepted.TheVariants.{Drawn}
-use Rattle.market.specs.declared.rank.BidRank.{BidRank}
-use Rattle.market.specs.declared.rank.OfferRank.{OfferRank}
+use Rattle.market.specs.Ranks.{BidRank, OfferRank}
 use Rattle.market.specs.declared.rank.EndTime.{EndTime}
 use Rattle.rules.specs.Base.{is_some}
 use Rattle.rules.specs.Board.{Opening, Board, State, is_open, meet}

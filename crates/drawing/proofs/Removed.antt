@@ -5,8 +5,7 @@ use Rattle.market.specs.declared.order.Order.{Order}
 use Rattle.market.specs.declared.record.Cause.{Cause}
 use Rattle.market.specs.declared.record.Record.{Record}
 use Rattle.market.specs.declared.record.Record.TheVariants.{Removal}
-use Rattle.market.specs.declared.rank.BidRank.{BidRank}
-use Rattle.market.specs.declared.rank.OfferRank.{OfferRank}
+use Rattle.market.specs.Ranks.{BidRank, OfferRank}
 use Rattle.market.specs.declared.rank.EndTime.{EndTime}
 use Rattle.rules.specs.Board.{Opening, Board, State}
 use Rattle.rules.specs.Standings.{standing}

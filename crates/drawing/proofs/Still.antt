@@ -1,8 +1,7 @@
 -- Steps that leave orders and lines alone. Assumes nothing.
 use Rattle.std.proofs.Common.{◌≡◌, sym, refl, ap, ◌∙◌}
 use Rattle.line.specs.declared.lines.Line.{Ghosts}
-use Rattle.market.specs.declared.rank.BidRank.{BidRank}
-use Rattle.market.specs.declared.rank.OfferRank.{OfferRank}
+use Rattle.market.specs.Ranks.{BidRank, OfferRank}
 use Rattle.market.specs.declared.rank.EndTime.{EndTime}
 use Rattle.rules.specs.Board.{Opening, State}
 use Rattle.rules.specs.Standings.{standing}

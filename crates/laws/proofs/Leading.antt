@@ -4,7 +4,7 @@ use Rattle.std.proofs.lemmas.Int.{ints}
 use Rattle.std.proofs.lemmas.Bool.{both_ways, eqb-true, eqb-false, eq-eqb, ltb-true}
 use Rattle.std.proofs.lemmas.Bool.Decides.{nat_tests}
 use Rattle.line.specs.Order.{lower, lower_z}
-use Rattle.market.specs.Ranks.{class_number, earlier, sooner}
+use Rattle.market.specs.Ranks.{class_number, place, earlier, sooner}
 use Rattle.market.specs.declared.order.Side.{Side}
 use Rattle.market.specs.declared.order.Side.TheVariants.{Bid, Offer}
 use Rattle.market.specs.declared.order.Order.{Order}
@@ -16,19 +16,15 @@ use Rattle.market.specs.declared.state.Priority.TheVariants.{First as FirstPrior
 use Rattle.market.specs.declared.state.Carrier.{Carrier}
 use Rattle.market.specs.declared.state.Carrier.TheVariants.{Free, Order as By, Gone}
 use Rattle.market.specs.declared.state.Privilege.{Privilege}
-use Rattle.market.specs.declared.rank.Class.{Class}
-use Rattle.market.specs.declared.rank.Class.TheVariants.{Last, First, Second, Plain}
-use Rattle.market.specs.declared.rank.Standing.{Standing}
+use Rattle.market.specs.declared.standing.Standing.{Standing}
+use Rattle.market.specs.declared.standing.Standing.TheVariants.{Last, First, Second, Plain}
 use Rattle.rules.specs.Base.{names}
 use Rattle.rules.specs.Board.{Board, lookup}
-use Rattle.rules.specs.Standings.{plain as plainly, privileged, carrying, favoured as favoured_by, last_on, standing_in, standing, rank_of, ahead_on}
+use Rattle.rules.specs.Standings.{plain as plainly, privileged, carrying, favoured as favoured_by, last_on, standing_in, standing, bid_rank, offer_rank, ahead_on}
 use Rattle.rules.proofs.Tests.{names-true, none≢some, some_inj}
-use Rattle.laws.specs.Fair.{LastTrader, Favoured, Carries, InClass, favoured, first, second, plain, Earlier, Before, Ahead}
+use Rattle.laws.specs.Fair.{LastTrader, Favoured, Carries, Stands, favoured, first, second, plain, Earlier, Before, Ahead}
 
 -- ---- an order's standing is its class and its place
-
-abbrev Stands : Board → Order → Standing → Type 0
-Stands b o x = InClass b o x.class x.place
 
 last-true : (s : Side) (c : Session) (t : ℕ) → names (last_on s c.buyer c.seller) t ≡ true → LastTrader s c t
 last-true Bid c t h = names-true c.buyer t h
@@ -91,7 +87,7 @@ unfolding standing
 in-class b o = go b.phase refl
   where
     favours : b.phase ≡ Fbs → (q : Bool) → names (last_on o.side b.session.buyer b.session.seller) o.trader ≡ q →
-        Stands b o (cond q (record { class = Last; place = o.stamp }) (favoured_by (lookup b.privileges o.trader o.side) o))
+        Stands b o (cond q (Last o.stamp) (favoured_by (lookup b.privileges o.trader o.side) o))
     favours e true qe = favoured e (last-true o.side b.session o.trader qe)
     favours e false qe =
         by-privilege b o e (last-false o.side b.session o.trader qe) (lookup b.privileges o.trader o.side) refl
@@ -112,67 +108,53 @@ lower_z-ways : (a b : ℤ) (r : Bool) → lower_z a b r ≡ true → (a <ℤ b) 
 lower_z-ways a b true h = grind (arith, ints)
 lower_z-ways a b false h = grind (arith, ints)
 
-earlier-ways : (c : Class) (m n : ℕ) (r : Bool) → earlier c m n r ≡ true → Earlier c m n ⊎ ((m ≡ n) × (r ≡ true))
-earlier-ways Last m n r h = lower-ways m n r h
-earlier-ways First m n r h = lower-ways m n r h
-earlier-ways Second m n r h = back (lower-ways n m r h)
+earlier-ways : (x y : Standing) (r : Bool) → earlier x y r ≡ true → Earlier x (place y) ⊎ ((place x ≡ place y) × (r ≡ true))
+earlier-ways (Last m) y r h = lower-ways m (place y) r h
+earlier-ways (First m) y r h = lower-ways m (place y) r h
+earlier-ways (Second m) y r h = back (lower-ways (place y) m.0 r h)
   where
-    back : (n < m) ⊎ ((n ≡ m) × (r ≡ true)) → (n < m) ⊎ ((m ≡ n) × (r ≡ true))
+    back : (place y < m.0) ⊎ ((place y ≡ m.0) × (r ≡ true)) → (place y < m.0) ⊎ ((m.0 ≡ place y) × (r ≡ true))
     back (inl k) = inl k
     back (inr k) = inr (sym k.0, k.1)
-earlier-ways Plain m n r h = lower-ways m n r h
+earlier-ways (Plain m) y r h = lower-ways m (place y) r h
 
 pub ahead-from : (b : Board) (s : Side) (o p : Order) → ahead_on s b o p ≡ true → Ahead b s o p
 unfolding sooner
 ahead-from b s o p h =
-    record {
-      class = c;
-      place = m;
-      standing = in-class b o;
-      against = d;
-      further = n;
-      other = in-class b p;
-      before = before s h;
-    }
+    record { standing = c; stands = in-class b o; against = d; other = in-class b p; before = before s h }
   where
-    c : Class
-    c = (standing b o).class
+    c : Standing
+    c = standing b o
 
-    d : Class
-    d = (standing b p).class
-
-    m : ℕ
-    m = (standing b o).place
-
-    n : ℕ
-    n = (standing b p).place
+    d : Standing
+    d = standing b p
 
     Placed : Type 0
-    Placed = Earlier c m n ⊎ ((m ≡ n) × (o.number < p.number))
+    Placed = Earlier c (place d) ⊎ ((place c ≡ place d) × (o.number < p.number))
 
     Ranked : Type 0
     Ranked = (class_number c < class_number d) ⊎ ((class_number c ≡ class_number d) × Placed)
 
-    by_place : Earlier c m n ⊎ ((m ≡ n) × (ltb o.number p.number ≡ true)) → Placed
+    by_place : Earlier c (place d) ⊎ ((place c ≡ place d) × (ltb o.number p.number ≡ true)) → Placed
     by_place (inl k) = inl k
     by_place (inr k) = inr (k.0, ltb-true o.number p.number k.1)
 
     by-class : (class_number c < class_number d) ⊎
-        ((class_number c ≡ class_number d) × (earlier c m n (ltb o.number p.number) ≡ true)) → Ranked
+        ((class_number c ≡ class_number d) × (earlier c d (ltb o.number p.number) ≡ true)) → Ranked
     by-class (inl k) = inl k
-    by-class (inr k) = inr (k.0, by_place (earlier-ways c m n (ltb o.number p.number) k.1))
+    by-class (inr k) = inr (k.0, by_place (earlier-ways c d (ltb o.number p.number) k.1))
 
-    ranked : sooner (rank_of b o) (rank_of b p) ≡ true → Ranked
+    ranked : sooner (offer_rank b o) (offer_rank b p) ≡ true → Ranked
     ranked k = by-class (lower-ways (class_number c) (class_number d) _ k)
 
-    before : (s : Side) → ahead_on s b o p ≡ true → Before s o c m p d n
+    before : (s : Side) → ahead_on s b o p ≡ true → Before s o c p d
     before Bid h = go (lower_z-ways p.price o.price _ h)
       where
-        go : (p.price <ℤ o.price) ⊎ ((p.price ≡ o.price) × (sooner (rank_of b o) (rank_of b p) ≡ true)) → Before Bid o c m p d n
+        go : (p.price <ℤ o.price) ⊎ ((p.price ≡ o.price) × (sooner (bid_rank b o) (bid_rank b p) ≡ true)) → Before Bid o c p d
         go (inl k) = inl k
         go (inr k) = inr (sym k.0, ranked k.1)
     before Offer h = go (lower_z-ways o.price p.price _ h)
       where
-        go : (o.price <ℤ p.price) ⊎ ((o.price ≡ p.price) × (sooner (rank_of b o) (rank_of b p) ≡ true)) → Before Offer o c m p d n
+        go : (o.price <ℤ p.price) ⊎ ((o.price ≡ p.price) × (sooner (offer_rank b o) (offer_rank b p) ≡ true)) → Before Offer o c p d
         go (inl k) = inl k
         go (inr k) = inr (k.0, ranked k.1)

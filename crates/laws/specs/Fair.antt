@@ -1,7 +1,7 @@
 -- Fills are fair: each is of the two orders that are entitled and ahead of every other entitled one on their sides, and the tape
 -- rests only while a side has no entitled order. All words here are relations of a book's board. Assumes nothing.
 use Rattle.std.specs.Prelude.{◌≡◌, ℕ, ◌<◌, true, ◌⊎◌, List, ℤ, ◌≤ℤ◌, ◌<ℤ◌, Some, Ok, ◌≢◌}
-use Rattle.market.specs.Ranks.{class_number}
+use Rattle.market.specs.Ranks.{class_number, place}
 use Rattle.market.specs.declared.order.Side.{Side}
 use Rattle.market.specs.declared.order.Side.TheVariants.{Bid, Offer}
 use Rattle.market.specs.declared.order.Order.{Order}
@@ -11,8 +11,8 @@ use Rattle.market.specs.declared.state.Session.{Session}
 use Rattle.market.specs.declared.state.Priority.{Priority}
 use Rattle.market.specs.declared.state.Priority.TheVariants.{First as FirstPriority, Second as SecondPriority}
 use Rattle.market.specs.declared.state.Carrier.TheVariants.{Order as By}
-use Rattle.market.specs.declared.rank.Class.{Class}
-use Rattle.market.specs.declared.rank.Class.TheVariants.{Last, First, Second, Plain}
+use Rattle.market.specs.declared.standing.Standing.{Standing}
+use Rattle.market.specs.declared.standing.Standing.TheVariants.{Last, First, Second, Plain}
 use Rattle.market.specs.declared.record.Record.{Record}
 use Rattle.market.specs.declared.record.Record.TheVariants.{Quiet, Fill, Session as SessionRecord, Rolling as RollingRecord, Fbs as FbsRecord, Open as OpenRecord, Removal}
 use Rattle.market.specs.declared.call.Call.{Call}
@@ -87,37 +87,35 @@ abbrev pub Carries : Board → Order → Priority → ℕ → Type 0
 Carries b o p n = lookup b.privileges o.trader o.side ≡ Some (record { priority = p; earned = n; carrier = By o.number })
 
 -- an order's class, and its place within the class
-pub data InClass (b : Board) (o : Order) : Class → ℕ → Type 0 where
-  favoured : b.phase ≡ Fbs → Favoured b o → InClass b o Last o.stamp
-  first : (n : ℕ) → b.phase ≡ Fbs → ¬ (Favoured b o) → Carries b o FirstPriority n → InClass b o First n
-  second : (n : ℕ) → b.phase ≡ Fbs → ¬ (Favoured b o) → Carries b o SecondPriority n → InClass b o Second n
-  plain : (b.phase ≡ Fbs → ¬ (Favoured b o) × ((p : Priority) (n : ℕ) → ¬ (Carries b o p n))) → InClass b o Plain o.stamp
+pub data Stands (b : Board) (o : Order) : Standing → Type 0 where
+  favoured : b.phase ≡ Fbs → Favoured b o → Stands b o (Last o.stamp)
+  first : (n : ℕ) → b.phase ≡ Fbs → ¬ (Favoured b o) → Carries b o FirstPriority n → Stands b o (First n)
+  second : (n : ℕ) → b.phase ≡ Fbs → ¬ (Favoured b o) → Carries b o SecondPriority n → Stands b o (Second (record { 0 = n }))
+  plain : (b.phase ≡ Fbs → ¬ (Favoured b o) × ((p : Priority) (n : ℕ) → ¬ (Carries b o p n))) → Stands b o (Plain o.stamp)
 
 -- the lower stamp or earned number goes first, but of those with a Priority 2 the higher
-abbrev pub Earlier : Class → ℕ → ℕ → Type 0
-Earlier Last m n = m < n
-Earlier First m n = m < n
-Earlier Second m n = n < m
-Earlier Plain m n = m < n
+abbrev pub Earlier : Standing → ℕ → Type 0
+Earlier (Last m) n = m < n
+Earlier (First m) n = m < n
+Earlier (Second m) n = n < m.0
+Earlier (Plain m) n = m < n
 
 -- by better price, then lower class, then place within the class, then lower order number
-abbrev pub Before : Side → Order → Class → ℕ → Order → Class → ℕ → Type 0
-Before s o c m p d n =
+abbrev pub Before : Side → Order → Standing → Order → Standing → Type 0
+Before s o c p d =
     Better s o.price p.price ⊎ (
     (o.price ≡ p.price) ×
     ((class_number c < class_number d) ⊎
-    ((class_number c ≡ class_number d) × (Earlier c m n ⊎ ((m ≡ n) × (o.number < p.number)))))
+    ((class_number c ≡ class_number d) × (Earlier c (place d) ⊎ ((place c ≡ place d) × (o.number < p.number)))))
     )
 
 -- of two orders of a side, the first goes before the second
 pub record Ahead (b : Board) (s : Side) (o p : Order) : Type 0 where
-  pub class : Class
-  pub place : ℕ
-  pub standing : InClass b o class place
-  pub against : Class
-  pub further : ℕ
-  pub other : InClass b p against further
-  pub before : Before s o class place p against further
+  pub standing : Standing
+  pub stands : Stands b o standing
+  pub against : Standing
+  pub other : Stands b p against
+  pub before : Before s o standing p against
 
 -- ---- the law
 

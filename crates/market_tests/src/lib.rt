@@ -5,9 +5,12 @@
 mod tests {
     use line::entry::Entry;
     use line::lines::LineFault;
-    use market::rank::{BidRank, Class, OfferRank, Rank, Standing};
+    use market::price::SidePrice;
+    use market::rank::{BidRank, OfferRank, Rank};
     use market::refusal::{BookFault, Layer, MessageFault, Refusal};
     use market::settings::Settings;
+    use market::standing::Standing;
+    use std::cmp::Reverse;
 
     fn lot_of(tenor: u8) -> Option<u32> {
         match Settings::new(tenor, 10_000, 10_000, 8_000) {
@@ -58,49 +61,29 @@ mod tests {
         assert!(rt; full.number() == 18 && full.layer() == Layer::Line);
     }
 
-    fn rank(price: i32, class: Class, place: u64, number: u32) -> Rank {
+    fn rank<P: SidePrice>(price: i32, standing: Standing, number: u32) -> Rank<P> {
         Rank {
-            price,
-            standing: Standing { class, place },
+            price: P::of(price),
+            standing,
             number,
         }
     }
 
     #[test]
     fn ranks_go_by_price_class_place_and_number(rt: HostRuntime) {
-        let bid = BidRank {
-            rank: rank(-2, Class::Plain, 9, 9),
-        };
-        assert!(rt;
-            bid.is_ahead(&BidRank {
-                rank: rank(-3, Class::Last, 1, 1),
-            })
-        );
-        let offer = OfferRank {
-            rank: rank(-3, Class::Plain, 9, 9),
-        };
-        assert!(rt;
-            offer.is_ahead(&OfferRank {
-                rank: rank(-2, Class::Last, 1, 1),
-            })
-        );
-        let newest = OfferRank {
-            rank: rank(5, Class::Second, 8, 2),
-        };
-        assert!(rt;
-            newest.is_ahead(&OfferRank {
-                rank: rank(5, Class::Second, 7, 1),
-            })
-        );
-        assert!(rt;
-            newest.is_ahead(&OfferRank {
-                rank: rank(5, Class::Plain, 1, 1),
-            })
-        );
-        assert!(rt;
-            !newest.is_ahead(&OfferRank {
-                rank: rank(5, Class::First, 9, 3),
-            })
-        );
+        let bid: BidRank = rank(-2, Standing::Plain(9), 9);
+        assert!(rt; bid.is_ahead(&rank(-3, Standing::Last(1), 1)));
+        let offer: OfferRank = rank(-3, Standing::Plain(9), 9);
+        assert!(rt; offer.is_ahead(&rank(-2, Standing::Last(1), 1)));
+        let newest: OfferRank = rank(5, Standing::Second(Reverse(8)), 2);
+        assert!(rt; newest.is_ahead(&rank(5, Standing::Second(Reverse(7)), 1)));
+        assert!(rt; newest.is_ahead(&rank(5, Standing::Plain(1), 1)));
+        assert!(rt; !newest.is_ahead(&rank(5, Standing::First(9), 3)));
+    }
+
+    #[test]
+    fn a_rank_of_no_order_is_plain(rt: HostRuntime) {
+        assert!(rt; BidRank::default() == rank(0, Standing::Plain(0), 0));
+        assert!(rt; OfferRank::default() == rank(0, Standing::Plain(0), 0));
     }
 }

@@ -12,8 +12,8 @@ use Rattle.market.specs.declared.state.Priority.TheVariants.{First as FirstPrior
 use Rattle.market.specs.declared.state.Carrier.{Carrier}
 use Rattle.market.specs.declared.state.Carrier.TheVariants.{Free, Order as By, Gone}
 use Rattle.market.specs.declared.state.Privilege.{Privilege}
-use Rattle.market.specs.declared.rank.Class.TheVariants.{Last}
-use Rattle.market.specs.declared.rank.Standing.{Standing}
+use Rattle.market.specs.declared.standing.Standing.TheVariants.{Last}
+use Rattle.market.specs.declared.standing.Standing.{Standing}
 use Rattle.rules.specs.Base.{names}
 use Rattle.rules.specs.Board.{Table, lookup, place, seat}
 use Rattle.rules.specs.Standings.{plain, privileged, carrying, favoured, last_on, standing_in}
@@ -113,5 +113,5 @@ standing-unseen n f t s Open x y ps p u h = refl
 standing-unseen n f t s Timed x y ps p u h = refl
 standing-unseen n f t s Rolling x y ps p u h = refl
 standing-unseen n f t s Fbs x y ps p u h =
-    ap (λ (z : Standing). cond (names (last_on p.side x y) p.trader) (record { class = Last; place = p.stamp }) z)
+    ap (λ (z : Standing). cond (names (last_on p.side x y) p.trader) (Last p.stamp) z)
     (adjusted-unseen n f t s ps p (lookup ps t s) u h refl)

@@ -1,13 +1,11 @@
 -- From the lines of one state to those of the next. Assumes nothing.
 use Rattle.std.proofs.Common.{◌≡◌, ℕ, ◌<◌, ◌≤◌, Bool, true, false, List, [], ◌∷◌, ◌++◌, Some, None, Option, sym, refl, ap, ◌∙◌, subst, inl, inr, arith}
 use Rattle.line.specs.declared.lines.Line.{Ghosts}
-use Rattle.market.specs.Ranks.{bid_ahead, offer_ahead, end_ahead}
+use Rattle.market.specs.Ranks.{BidRank, OfferRank, bid_ahead, offer_ahead, end_ahead}
 use Rattle.market.specs.declared.settings.Settings.{Settings}
 use Rattle.market.specs.declared.order.Side.TheVariants.{Bid, Offer}
 use Rattle.market.specs.declared.order.Order.{Order}
-use Rattle.market.specs.declared.rank.Standing.{Standing}
-use Rattle.market.specs.declared.rank.BidRank.{BidRank}
-use Rattle.market.specs.declared.rank.OfferRank.{OfferRank}
+use Rattle.market.specs.declared.standing.Standing.{Standing}
 use Rattle.market.specs.declared.rank.EndTime.{EndTime}
 use Rattle.rules.specs.Base.{is_some, only_if, count, each}
 use Rattle.rules.specs.Board.{Opening, Board, on, same}
@@ -42,11 +40,11 @@ there false x = refl
 
 pub bid-same : (b b' : Board) (p : Order) → standing b' p ≡ standing b p → bid_entry b' p ≡ bid_entry b p
 bid-same b b' p e =
-    ap (λ (s : Standing). let r : BidRank = record { rank = record { price = p.price; standing = s; number = p.number } } in only_if (on Bid p) (Some r)) e
+    ap (λ (s : Standing). let r : BidRank = record { price = record { 0 = p.price }; standing = s; number = p.number } in only_if (on Bid p) (Some r)) e
 
 pub offer-same : (b b' : Board) (p : Order) → standing b' p ≡ standing b p → offer_entry b' p ≡ offer_entry b p
 offer-same b b' p e =
-    ap (λ (s : Standing). let r : OfferRank = record { rank = record { price = p.price; standing = s; number = p.number } } in only_if (on Offer p) (Some r)) e
+    ap (λ (s : Standing). let r : OfferRank = record { price = p.price; standing = s; number = p.number } in only_if (on Offer p) (Some r)) e
 
 bid-kept : (b b' : Board) (o : Order) (r : Option Order) → Alike o r → is_some (afterwards b' r).bid ≡ true → is_some (bid_entry b o) ≡ true
 bid-kept b b' o None a h = absurd (never h)

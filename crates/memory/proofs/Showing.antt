@@ -3,8 +3,6 @@ use Rattle.std.proofs.Common.{◌≡◌, ℕ, ◌<◌, ◌≤◌, true, List, []
 use Rattle.line.specs.declared.lines.Line.{Ghosts}
 use Rattle.market.specs.declared.order.Side.TheVariants.{Bid, Offer}
 use Rattle.market.specs.declared.order.Order.{Order}
-use Rattle.market.specs.declared.rank.BidRank.{BidRank}
-use Rattle.market.specs.declared.rank.OfferRank.{OfferRank}
 use Rattle.market.specs.declared.rank.EndTime.{EndTime}
 use Rattle.rules.specs.Base.{count}
 use Rattle.rules.specs.Board.{Opening, Board, State, on}
@@ -13,7 +11,7 @@ use Rattle.rules.specs.Refusing.{ending}
 use Rattle.rules.specs.Members.{In}
 use Rattle.rules.specs.Rising.{Ascends, Keeps}
 use Rattle.rules.specs.Standings.{standing}
-use Rattle.market.specs.Ranks.{bid_ahead, offer_ahead, end_ahead}
+use Rattle.market.specs.Ranks.{bid_ahead, offer_ahead, end_ahead, BidRank, OfferRank}
 use Rattle.board.specs.EndTimes.{end_time}
 use Rattle.queues.specs.Lists.{Lists}
 use Rattle.queues.specs.Entries.{bid_entry, offer_entry}

@@ -1,11 +1,9 @@
 -- How a book in memory shows a state of the rules, and how its lines are kept in step. Assumes nothing.
 use Rattle.std.specs.Prelude.{◌≡◌, List}
 use Rattle.line.specs.declared.lines.Line.{Ghosts}
-use Rattle.market.specs.Ranks.{bid_ahead, offer_ahead, end_ahead}
+use Rattle.market.specs.Ranks.{BidRank, OfferRank, bid_ahead, offer_ahead, end_ahead}
 use Rattle.market.specs.declared.order.Order.{Order}
 use Rattle.market.specs.declared.order.Side.TheVariants.{Bid, Offer}
-use Rattle.market.specs.declared.rank.BidRank.{BidRank}
-use Rattle.market.specs.declared.rank.OfferRank.{OfferRank}
 use Rattle.market.specs.declared.rank.EndTime.{EndTime}
 use Rattle.rules.specs.Board.{Opening, Board, State, on}
 use Rattle.rules.specs.Refusing.{ending}

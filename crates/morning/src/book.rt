@@ -2,8 +2,10 @@
 use crate::script::Quote;
 use line::entry::Entry;
 use line::lines::{Line, LineFault};
-use market::rank::{BidRank, Class, EndTime, OfOrder, Rank, Standing};
+use market::rank::{BidRank, EndTime, OfOrder};
+use market::standing::Standing;
 use std::alloc::Global;
+use std::cmp::Reverse;
 use std::{fmt, io, iter};
 
 /// The quotes by number, from 1; their ranks in a line that keeps its row in order and in a heap; and their end times.
@@ -17,16 +19,10 @@ pub struct Bids<O: Drop, H: Drop, E: Drop> {
 }
 
 fn rank_of(quote: &Quote, number: u32) -> BidRank {
-    let standing = Standing {
-        class: Class::Plain,
-        place: number as u64,
-    };
     BidRank {
-        rank: Rank {
-            price: quote.price,
-            standing,
-            number,
-        },
+        price: Reverse(quote.price),
+        standing: Standing::Plain(u64::from(number)),
+        number,
     }
 }
 

@@ -8,25 +8,10 @@ mod script;
 use book::Bids;
 use heap_row::heap_row::HeapRow;
 use line::lines::Line;
-use market::rank::{BidRank, Class, EndTime, Rank, Standing};
+use market::rank::{BidRank, EndTime};
 use ordered_row::ordered_row::OrderedRow;
 use script::{Step, step_of};
 use std::io;
-
-/// What the rows hold before an order comes.
-fn no_rank() -> BidRank {
-    let standing = Standing {
-        class: Class::Plain,
-        place: 0,
-    };
-    BidRank {
-        rank: Rank {
-            price: 0,
-            standing,
-            number: 0,
-        },
-    }
-}
 
 fn obey<O: Line<BidRank> + Drop, H: Line<BidRank> + Drop, E: Line<EndTime> + Drop>(
     rt: &HostRuntime,
@@ -42,9 +27,9 @@ fn obey<O: Line<BidRank> + Drop, H: Line<BidRank> + Drop, E: Line<EndTime> + Dro
 }
 
 fn run(rt: &HostRuntime) -> anyhow::Result<()> {
-    let mut sorted = [no_rank(); 128];
-    let mut heaped = [no_rank(); 128];
-    let mut ending = [EndTime { end: 0, number: 0 }; 128];
+    let mut sorted = [BidRank::default(); 128];
+    let mut heaped = [BidRank::default(); 128];
+    let mut ending = [EndTime::default(); 128];
     let mut bids = Bids::new(
         rt.alloc(),
         OrderedRow::new(&mut sorted),

@@ -1,50 +1,36 @@
-//! The entries of the three lines of a book: ranks of bids, ranks of offers, and end times.
+//! The entries of the three lines of a book: ranks of bids and of offers, and end times.
 ghost use Rattle.std.specs.Prelude.{◌≡◌, Bool};
 ghost use Rattle.std.proofs.Common.{rules};
-ghost use Rattle.market.specs.declared.order.Side.TheVariants.{Bid, Offer};
-ghost use Rattle.rules.specs.Board.{on, better};
+ghost use Rattle.market.specs.Ranks.{sooner};
+ghost use Rattle.rules.specs.Board.{on};
 ghost use Rattle.rules.specs.Refusing.{ending};
 ghost use Rattle.rules.specs.Standings;
 ghost use Rattle.board.specs.EndTimes.{end_time};
-ghost use Rattle.queues.specs.Entries.{bid_entry, offer_entry};
+ghost use Rattle.queues.specs.Entries.{side_entry};
+ghost use Rattle.queues.specs.Sided.{rank-cheaper};
 
 use crate::listed::Listed;
 use crate::ranked::Ranked;
 use board::board::Board;
-use board::standing::{bid_rank, end_time, offer_rank};
-use market::order::{Order, Side};
-use market::rank::{BidRank, EndTime, OfferRank};
+use board::standing::{end_time, rank_of};
+use market::order::Order;
+use market::price::SidePrice;
+use market::rank::{EndTime, Rank};
 
-impl Listed for BidRank {
-    ghost mine = { on Bid };
+impl<P: SidePrice> Listed for Rank<P> {
+    ghost mine = { on P.SIDE };
 
-    ghost listing = { bid_entry };
-
-    ghost has = { Prim.search rules };
-
-    ghost named = { Prim.search rules };
-
-    fn of(board: &Board, order: &Order) -> Option<BidRank> {
-        match order.side {
-            Side::Bid => Some(bid_rank(board, order)),
-            Side::Offer => None,
-        }
-    }
-}
-
-impl Listed for OfferRank {
-    ghost mine = { on Offer };
-
-    ghost listing = { offer_entry };
+    ghost listing = { side_entry P.SIDE P.of };
 
     ghost has = { Prim.search rules };
 
     ghost named = { Prim.search rules };
 
-    fn of(board: &Board, order: &Order) -> Option<OfferRank> {
-        match order.side {
-            Side::Bid => None,
-            Side::Offer => Some(offer_rank(board, order)),
+    fn of(board: &Board, order: &Order) -> Option<Rank<P>> {
+        if order.side == P::SIDE {
+            Some(rank_of(board, order))
+        } else {
+            None
         }
     }
 }
@@ -63,38 +49,20 @@ impl Listed for EndTime {
     }
 }
 
-impl Ranked for BidRank {
-    ghost side = { Bid };
+impl<P: SidePrice> Ranked for Rank<P> {
+    ghost side = { P.SIDE };
 
-    ghost price = { λ x. x.rank.price };
-
-    ghost sided = { Prim.search rules };
-
-    ghost priced = { Prim.search rules };
-
-    ghost agrees = { unfold Standings.ahead in Prim.search rules };
-
-    ghost cheaper = { unfold better in Prim.search rules };
-
-    fn price(&self) -> i32 {
-        self.rank.price
-    }
-}
-
-impl Ranked for OfferRank {
-    ghost side = { Offer };
-
-    ghost price = { λ x. x.rank.price };
+    ghost price = { λ x. P.ticks x.price };
 
     ghost sided = { Prim.search rules };
 
-    ghost priced = { Prim.search rules };
+    ghost priced = { Prim.search (rules, P.kept) };
 
-    ghost agrees = { unfold Standings.ahead in Prim.search rules };
+    ghost agrees = { unfold Standings.ahead in unfold sooner in Prim.search (rules, P.kept) };
 
-    ghost cheaper = { unfold better in Prim.search rules };
+    ghost cheaper = { rank-cheaper P.SIDE P.ticks };
 
     fn price(&self) -> i32 {
-        self.rank.price
+        self.price.ticks()
     }
 }

@@ -1,16 +1,12 @@
 -- The orders of a side are ranked. Assumes nothing.
-use Rattle.std.proofs.Common.{◌≡◌, Bool, true, false, ◌⊎◌, sym, ap, ◌∙◌, inl, inr}
+use Rattle.std.proofs.Common.{◌≡◌, Bool, true, false, ◌⊎◌, sym, refl, ap, ◌∙◌, inl, inr}
 use Rattle.std.proofs.lemmas.Bool.{cases_Bool}
 use Rattle.line.specs.Order.{Order as TotalOrder}
-use Rattle.line.proofs.Orders.{lower_z-on, lower_z-back}
-use Rattle.market.specs.Ranks.{bid_ahead, offer_ahead}
-use Rattle.market.specs.Soonest.{lower_z-self, lower_z-even, sooner-self, sooner-even, sooner-on}
+use Rattle.market.specs.Ranks.{BidRank, OfferRank, bid_ahead, offer_ahead}
+use Rattle.market.specs.Soonest.{ranks-ordered}
 use Rattle.market.specs.declared.order.Side.{Side}
 use Rattle.market.specs.declared.order.Side.TheVariants.{Bid, Offer}
 use Rattle.market.specs.declared.order.Order.{Order}
-use Rattle.market.specs.declared.rank.Rank.{Rank}
-use Rattle.market.specs.declared.rank.BidRank.{BidRank}
-use Rattle.market.specs.declared.rank.OfferRank.{OfferRank}
 use Rattle.rules.specs.Board.{Board}
 use Rattle.rules.specs.Standings.{bid_rank, offer_rank, ahead_on, ahead}
 use Rattle.rules.proofs.Firsts.{Ranked, order-asymmetric, order-split}
@@ -18,24 +14,10 @@ use Rattle.rules.proofs.Firsts.{Ranked, order-asymmetric, order-split}
 -- ---- bids and offers are in total orders
 
 pub bids-ordered : TotalOrder bid_ahead
-bids-ordered =
-    record {
-      irreflexive = λ x. lower_z-self x.rank.price _ (sooner-self x.rank);
-      total = λ x y h k.
-          let e = lower_z-even y.rank.price x.rank.price _ _ h k in
-          let ranked : Rank → BidRank = λ r. record { rank = r } in ap ranked (sooner-even x.rank y.rank e.1 e.2 (sym e.0));
-      transitive = λ x y z. lower_z-back (sooner-on x.rank y.rank z.rank) x.rank.price y.rank.price z.rank.price;
-    }
+bids-ordered = ranks-ordered Bid (λ p. record { 0 = p }) (λ p. p.0) (λ p. refl)
 
 pub offers-ordered : TotalOrder offer_ahead
-offers-ordered =
-    record {
-      irreflexive = λ x. lower_z-self x.rank.price _ (sooner-self x.rank);
-      total = λ x y h k.
-          let e = lower_z-even x.rank.price y.rank.price _ _ h k in
-          let ranked : Rank → OfferRank = λ r. record { rank = r } in ap ranked (sooner-even x.rank y.rank e.1 e.2 e.0);
-      transitive = λ x y z. lower_z-on (sooner-on x.rank y.rank z.rank) x.rank.price y.rank.price z.rank.price;
-    }
+offers-ordered = ranks-ordered Offer (λ p. p) (λ p. p) (λ p. refl)
 
 -- ---- orders of one side
 
@@ -52,8 +34,8 @@ side-split Bid b x y z = order-split bids-ordered (bid_rank b x) (bid_rank b y) 
 side-split Offer b x y z = order-split offers-ordered (offer_rank b x) (offer_rank b y) (offer_rank b z)
 
 side-even : (s : Side) (b : Board) (x y : Order) → ahead_on s b x y ≡ false → ahead_on s b y x ≡ false → x.number ≡ y.number
-side-even Bid b x y h k = ap (λ (r : BidRank). r.rank.number) (bids-ordered.total (bid_rank b x) (bid_rank b y) h k)
-side-even Offer b x y h k = ap (λ (r : OfferRank). r.rank.number) (offers-ordered.total (offer_rank b x) (offer_rank b y) h k)
+side-even Bid b x y h k = ap (λ (r : BidRank). r.number) (bids-ordered.total (bid_rank b x) (bid_rank b y) h k)
+side-even Offer b x y h k = ap (λ (r : OfferRank). r.number) (offers-ordered.total (offer_rank b x) (offer_rank b y) h k)
 
 -- of two different orders of a side, the first is ahead if the second is not
 pub ahead-total : (b : Board) (s : Side) (x y : Order) → x.side ≡ s → y.side ≡ s → ¬ (x.number ≡ y.number) → ahead b y x ≡ false →

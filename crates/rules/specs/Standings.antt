@@ -1,6 +1,6 @@
 -- Rank: better price, then class and place within it, then the lower order number. Assumes nothing.
 use Rattle.std.specs.Prelude.{ℕ, Bool, cond, Some, None, Option, ◌==◌}
-use Rattle.market.specs.Ranks.{bid_ahead, offer_ahead}
+use Rattle.market.specs.Ranks.{BidRank, OfferRank, bid_ahead, offer_ahead}
 use Rattle.market.specs.declared.order.Side.{Side}
 use Rattle.market.specs.declared.order.Side.TheVariants.{Bid, Offer}
 use Rattle.market.specs.declared.order.Order.{Order}
@@ -11,22 +11,20 @@ use Rattle.market.specs.declared.state.Priority.TheVariants.{First as FirstPrior
 use Rattle.market.specs.declared.state.Carrier.{Carrier}
 use Rattle.market.specs.declared.state.Carrier.TheVariants.{Free, Order as By, Gone}
 use Rattle.market.specs.declared.state.Privilege.{Privilege}
-use Rattle.market.specs.declared.rank.Class.TheVariants.{Last, First, Second, Plain}
-use Rattle.market.specs.declared.rank.Standing.{Standing}
+use Rattle.market.specs.declared.standing.Standing.{Standing}
+use Rattle.market.specs.declared.standing.Standing.TheVariants.{Last, First, Second, Plain}
 use Rattle.market.specs.declared.rank.Rank.{Rank}
-use Rattle.market.specs.declared.rank.BidRank.{BidRank}
-use Rattle.market.specs.declared.rank.OfferRank.{OfferRank}
 use Rattle.rules.specs.Base.{names}
 use Rattle.rules.specs.Board.{Board, Table, lookup}
 
 -- by its stamp alone
 abbrev pub plain : Order → Standing
-plain o = record { class = Plain; place = o.stamp }
+plain o = Plain o.stamp
 
 -- by what it has earned
 abbrev pub privileged : Priority → ℕ → Standing
-privileged FirstPriority earned = record { class = First; place = earned }
-privileged SecondPriority earned = record { class = Second; place = earned }
+privileged FirstPriority earned = First earned
+privileged SecondPriority earned = Second (record { 0 = earned })
 
 abbrev pub carrying : Carrier → Privilege → Order → Standing
 carrying Free p o = plain o
@@ -48,20 +46,20 @@ standing_in Open buyer seller ps o = plain o
 standing_in Timed buyer seller ps o = plain o
 standing_in Rolling buyer seller ps o = plain o
 standing_in Fbs buyer seller ps o =
-    cond (names (last_on o.side buyer seller) o.trader) (record { class = Last; place = o.stamp })
-    (favoured (lookup ps o.trader o.side) o)
+    cond (names (last_on o.side buyer seller) o.trader) (Last o.stamp) (favoured (lookup ps o.trader o.side) o)
 
 unfoldable pub standing : Board → Order → Standing
 standing b o = standing_in b.phase b.session.buyer b.session.seller b.privileges o
 
-abbrev pub rank_of : Board → Order → Rank
-rank_of b o = record { price = o.price; standing = standing b o; number = o.number }
+-- with its price as its side compares it
+abbrev pub rank_of : {P : Type 0} → P → Board → Order → Rank P
+rank_of p b o = record { price = p; standing = standing b o; number = o.number }
 
 abbrev pub bid_rank : Board → Order → BidRank
-bid_rank b o = record { rank = rank_of b o }
+bid_rank b o = rank_of (record { 0 = o.price }) b o
 
 abbrev pub offer_rank : Board → Order → OfferRank
-offer_rank b o = record { rank = rank_of b o }
+offer_rank b o = rank_of o.price b o
 
 abbrev pub ahead_on : Side → Board → Order → Order → Bool
 ahead_on Bid b o p = bid_ahead (bid_rank b o) (bid_rank b p)

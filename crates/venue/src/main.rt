@@ -9,7 +9,7 @@ use intake::hold;
 use line::lines::Line;
 use market::answer::{Accepted, Answer};
 use market::call::Call;
-use market::rank::{BidRank, Class, EndTime, OfferRank, Rank, Standing};
+use market::rank::{BidRank, EndTime, OfferRank};
 use market::settings::Settings;
 use ordered_row::ordered_row::OrderedRow;
 use std::io;
@@ -17,18 +17,6 @@ use std::io::{BufReader, Write};
 use wire_in::read::read;
 use wire_out::output::Output;
 use wire_out::write::write;
-
-/// What the rows hold before an order comes.
-fn no_rank() -> Rank {
-    Rank {
-        price: 0,
-        standing: Standing {
-            class: Class::Plain,
-            place: 0,
-        },
-        number: 0,
-    }
-}
 
 /// The book's answer to one call.
 fn answer_to<B: Line<BidRank> + Drop, O: Line<OfferRank> + Drop, E: Line<EndTime> + Drop>(
@@ -73,9 +61,9 @@ fn run(rt: &HostRuntime) -> anyhow::Result<()> {
     let Ok(settings) = Settings::new(10, 10_000, 10_000, 8_000) else {
         return Err(anyhow!("there are no such settings"));
     };
-    let mut bids = [BidRank { rank: no_rank() }; 128];
-    let mut offers = [OfferRank { rank: no_rank() }; 128];
-    let mut ends = [EndTime { end: 0, number: 0 }; 128];
+    let mut bids = [BidRank::default(); 128];
+    let mut offers = [OfferRank::default(); 128];
+    let mut ends = [EndTime::default(); 128];
     let mut book = Book::open(
         settings,
         OrderedRow::new(&mut bids),
