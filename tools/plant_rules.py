@@ -42,10 +42,10 @@ BUGS = [
      'cond (names (last_on o.side buyer seller) o.trader)', 'cond (names None o.trader)'),
     ('the Last Seller is favoured among the bids', 'Standings', 'last_on Bid buyer seller = buyer', 'last_on Bid buyer seller = seller'),
     ('Priority 2 ranks with Priority 1', 'Standings',
-     'privileged SecondPriority earned = record { class = Second;', 'privileged SecondPriority earned = record { class = First;'),
+     'privileged SecondPriority earned = Second (record { 0 = earned })', 'privileged SecondPriority earned = First earned'),
     ('classes last beyond the FBS Period', 'Standings',
      'standing_in Open buyer seller ps o = plain o',
-     'standing_in Open buyer seller ps o =\n    cond (names (last_on o.side buyer seller) o.trader) (record { class = Last; place = o.stamp }) (plain o)'),
+     'standing_in Open buyer seller ps o =\n    cond (names (last_on o.side buyer seller) o.trader) (Last o.stamp) (plain o)'),
     # ---- the beginning of a session
     ('a fill in the FBS Period begins a session', 'Draws', 'only_if (is_open b.phase && meet b.orders)',
      'only_if (not (in_session b.phase) && meet b.orders)'),

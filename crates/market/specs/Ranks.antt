@@ -64,6 +64,6 @@ abbrev pub price_cmp : Side → ℤ → ℤ → Ordering
 price_cmp Bid p q = int_cmp q p
 price_cmp Offer p q = int_cmp p q
 
--- of two ranks of that side, the first goes before the second: `bid_ahead` of bids, `offer_ahead` of offers
+-- of two ranks of that side, the first goes before the second: `bid_ahead` for bids, `offer_ahead` for offers
 abbrev pub rank_ahead : {P : Type 0} → Side → (P → ℤ) → Rank P → Rank P → Bool
 rank_ahead side ticks a b = lower_on side (ticks a.price) (ticks b.price) (sooner a b)

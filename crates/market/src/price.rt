@@ -10,6 +10,7 @@ use std::cmp::Reverse;
 
 /// The price of an order of one side, ordered as that side's ranks are.
 pub trait SidePrice: Ord + Copy {
+    /// The side whose prices these are.
     const SIDE: Side;
 
     ghost SIDE: { Side };
@@ -18,9 +19,11 @@ pub trait SidePrice: Ord + Copy {
 
     ghost ticks: { Self → ℤ };
 
+    /// An order's price as it is compared.
     fn of(price: i32) -> Self
         ensures { result ≡ of price };
 
+    /// The order's price.
     fn ticks(self) -> i32
         ensures { result ≡ ticks self };
 
