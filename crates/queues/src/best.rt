@@ -15,10 +15,7 @@ use market::rank::{BidRank, OfferRank};
 fn price_of<T: Ranked>(rank: Option<T>) -> Option<i32>
     ensures { result ≡ price_of T.Ranked.price rank }
 {
-    match rank {
-        Some(rank) => Some(rank.price()),
-        None => None,
-    }
+    rank.map(|rank| rank.price())
 }
 
 /// The best price of the line's side.

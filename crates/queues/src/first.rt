@@ -22,10 +22,7 @@ use market::rank::OfOrder;
 fn order_of<T: OfOrder + Copy>(orders: &[Order], entry: Option<T>) -> Option<Order>
     ensures { result ≡ order_of T.OfOrder.number orders.now entry }
 {
-    match entry {
-        Some(entry) => numbered(orders, entry.order()),
-        None => None,
-    }
+    numbered(orders, entry?.order())
 }
 
 /// The first by rank of the side's orders.
@@ -43,12 +40,7 @@ fn allowed_order<T: OfOrder>(
 ) -> Option<Order>
     ensures { result ≡ choice (allowed entitlement.now) T.OfOrder.number orders.now entry.now }
 {
-    let order = numbered(orders, entry.order())?;
-    if entitlement.allows(&order) {
-        Some(order)
-    } else {
-        None
-    }
+    numbered(orders, entry.order()).filter(|order| entitlement.allows(order))
 }
 
 /// The first order along the line that may trade.
@@ -59,6 +51,7 @@ fn first_allowed<T: Ranked, L: Line<T>>(
 ) -> Option<Order>
     ensures { result ≡ walk (choice (allowed entitlement.now) T.OfOrder.number orders.now) (L.Line.entries line.now) }
 {
+    // Counted, so that the walk ends: an iterator over a line would be longer than its two uses.
     let mut at = line.first();
     for _n in 0..line.count() {
         let Some(rank) = at else {

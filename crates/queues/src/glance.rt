@@ -29,10 +29,7 @@ fn is_at<T: Ranked>(rank: &T, price: i32) -> bool
 fn displayed<T: OfOrder>(orders: &[Order], entry: &T) -> u32
     ensures { result ≡ displayed_by T.OfOrder.number orders.now entry.now }
 {
-    match numbered(orders, entry.order()) {
-        Some(order) => order.displayed,
-        None => 0,
-    }
+    numbered(orders, entry.order()).map_or(0, |order| order.displayed)
 }
 
 /// The displayed total of the first orders along the line that are at the price.
@@ -40,6 +37,7 @@ fn displayed_at<T: Ranked, L: Line<T>>(orders: &[Order], line: &L, price: i32) -
     ensures { result ≡ shown_at T.Ranked.price (displayed_by T.OfOrder.number orders.now) 8 price (L.Line.entries line.now) }
 {
     let mut total = 0;
+    // Counted, as the walk in `first`.
     let mut at = line.first();
     for _n in 0..DEPTH {
         let Some(rank) = at else {
