@@ -2,7 +2,6 @@
 use Rattle.std.proofs.Common.{◌≡◌, ℕ, ◌≤◌, Bool, true, false, cond, List, length, take, Ok, Err, Result, refl, ap, ◌∙◌, arith}
 use Rattle.std.proofs.lemmas.Bool.Decides.{nat_tests}
 use Rattle.market.specs.declared.refusal.MessageFault.{MessageFault}
-use Rattle.market.specs.declared.refusal.Refusal.TheVariants.{Message}
 use Rattle.layout.specs.Frames.{framed, taking, reading, reading_by}
 
 -- the condition of the refusal is not met, and the answer is what follows

@@ -9,6 +9,7 @@ use wire_in::message::CallMessage;
 use wire_out::output::Output;
 
 /// A whole message is a call, if its kind is a call's, 1 to 5, and else a record or a reply.
+// Kinds are decided by their numbers, as in the layout.
 impl<'a> TryFrom<&'a [u8]> for Message<'a> {
     type Error = MessageFault;
 

@@ -12,6 +12,7 @@ use market::order::{OrderType, Side};
 use market::refusal::{MessageFault, Refusal};
 
 /// An end time of 0 is none.
+// No `From`: both types are the library's.
 fn end_time(end: u64) -> Option<u64>
     ensures { result ≡ end_of end }
 {
@@ -67,6 +68,7 @@ fn cancel(message: &[u8]) -> OrderCancel
 }
 
 /// The call that a whole message makes. Its kind is at byte 3; a message with a reference has 27 to 43 bytes.
+// The layout lists kinds and lengths by their numbers, and so does the `match`.
 impl<'a> TryFrom<&'a [u8]> for CallMessage<'a> {
     type Error = MessageFault;
 

@@ -10,6 +10,7 @@ use market::call::OrderEntry;
 use market::refusal::{BookFault, MessageFault, Refusal};
 
 /// How an end time is written: none as 0, which is no end time, since it comes before any time of a book.
+// No `TryFrom`: both types are the library's.
 fn end_number(end: Option<u64>) -> Result<u64, BookFault>
     ensures { result ≡ end_number end }
 {

@@ -10,6 +10,7 @@ use market::record::Record;
 pub enum Output {
     Record(Record),
     /// The number of the refusal, or 0 where the call was accepted; and the number of the order that was entered, or 0.
+    // Numbers, and no `Refusal`: a reader takes any byte here.
     Reply { refusal: u8, order: u32 },
 }
 

@@ -38,6 +38,7 @@ fn removal(message: &[u8]) -> Result<Output, MessageFault>
 }
 
 /// The record or reply that a whole message brings. Its kind is at byte 3, and a record's time at byte 4.
+// The layout lists kinds and lengths by their numbers, and so does the `match`.
 impl TryFrom<&[u8]> for Output {
     type Error = MessageFault;
 

@@ -42,14 +42,11 @@ module _ (order : OrderEntry) (reference old : List ℕ) (few : length reference
       ∙ cond-false (ltb 65533 (length written)) _ _ short
       ∙ sym (cond-false (ltb 16 (length reference)) _ _ fits ∙ cond-false (at_zero order.end) _ _ z)
 
-pub returns : goal.returns
+pub returns-clause-value : goal.returns-clause-value
 unfolding body
-returns c =
+returns-clause-value c =
     let order = c.args.order.now in
     let fits : SFits w32 order.price = search rules in
     let end = end_is order.end c.in_ok-end.end c.in_ok-end.ensures in
-    record {
-      value = same order c.args.reference.now c.args.buf.now c.if-reference-gt16.false _ _ _ _
-          c.into.ensures c.into-2.ensures (to_z-of_z w32 order.price fits) end.1 end.0 c.write_message.ensures.value;
-      bound = c.write_message.ensures.bound;
-    }
+    same order c.args.reference.now c.args.buf.now c.if-reference-gt16.false _ _ _ _
+    c.into.ensures c.into-2.ensures (to_z-of_z w32 order.price fits) end.1 end.0 c.write_message.ensures.value
