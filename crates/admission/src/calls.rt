@@ -50,7 +50,9 @@ pub fn check_change(
 {
     check_quiet(board)?;
     check_trader(change.trader)?;
-    let order = board.owned_by(change.trader, change.number).ok_or(BookFault::Order)?;
+    let order = board
+        .owned_by(change.trader, change.number)
+        .ok_or(BookFault::Order)?;
     check_price(change.price)?;
     check_sizes(settings, change.displayed, change.reserve)?;
     check_better(board, order.side, change.price)?;
@@ -69,7 +71,9 @@ pub fn check_cancel(board: &Board, cancel: &OrderCancel) -> Result<Order, Refusa
 {
     check_quiet(board)?;
     check_trader(cancel.trader)?;
-    let order = board.owned_by(cancel.trader, cancel.number).ok_or(BookFault::Order)?;
+    let order = board
+        .owned_by(cancel.trader, cancel.number)
+        .ok_or(BookFault::Order)?;
     Ok(order)
 }
 

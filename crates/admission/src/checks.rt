@@ -41,10 +41,7 @@ pub fn check_quiet(board: &Board) -> Result<(), BookFault>
 pub fn check_time(board: &Board, time: u64) -> Result<(), BookFault>
     ensures { result ≡ refused_if (nat_lt time board.now.clock.time || nat_lt last_time time) Time }
 {
-    refused_if(
-        time < board.clock.time || time > LAST_TIME,
-        BookFault::Time,
-    )
+    refused_if(time < board.clock.time || time > LAST_TIME, BookFault::Time)
 }
 
 /// There are 128 traders.
@@ -57,10 +54,7 @@ pub fn check_trader(trader: u8) -> Result<(), BookFault>
 pub fn check_price(price: i32) -> Result<(), BookFault>
     ensures { result ≡ refused_if (not (is_price price)) Price }
 {
-    refused_if(
-        !matches!(price, -1_000_000..=1_000_000),
-        BookFault::Price,
-    )
+    refused_if(!matches!(price, -1_000_000..=1_000_000), BookFault::Price)
 }
 
 /// Whether the size is a multiple of the lot, and not too large.
@@ -114,10 +108,7 @@ fn is_own_met_among(orders: &[Order], seat: Seat, price: i32) -> bool
 pub fn check_own(board: &Board, seat: Seat, price: i32) -> Result<(), BookFault>
     ensures { result ≡ refused_if (own_meets board.now.orders.items seat.trader seat.side price) Own }
 {
-    refused_if(
-        is_own_met_among(&board.orders, seat, price),
-        BookFault::Own,
-    )
+    refused_if(is_own_met_among(&board.orders, seat, price), BookFault::Own)
 }
 
 /// So many entries and changes as there may be are accepted, and no more.

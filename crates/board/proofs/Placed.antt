@@ -1,11 +1,10 @@
 -- Where an order stands, and the orders and reserves after something is put there. Assumes nothing.
-use Rattle.std.proofs.Common.{◌≡◌, ℕ, suc, ◌+◌, ◌<◌, Bool, true, false, cond, eqb, List, [], ◌∷◌, Some, None, Option, sym, refl, ap, ◌∙◌, inl, inr, add-one, arith}
+use Rattle.std.proofs.Common.{◌≡◌, ℕ, suc, ◌+◌, ◌<◌, Bool, true, false, cond, eqb, List, [], ◌∷◌, Some, None, Option, sym, refl, ap, ◌∙◌, add-one, arith}
 use Rattle.std.proofs.lemmas.Bool.{eqb-true, eqb-false, ne_eqb, cond_both}
 use Rattle.market.specs.declared.order.Order.{Order}
 use Rattle.rules.specs.Base.{each, write}
 use Rattle.rules.specs.Board.{numbered}
 use Rattle.rules.specs.Fills.{replacing, replace}
-use Rattle.rules.specs.Members.{In}
 use Rattle.rules.specs.Rising.{Ascends, Keeps}
 use Rattle.rules.proofs.Rows.{write-here, write-there}
 use Rattle.std.specs.List.{position_from}

@@ -1,5 +1,5 @@
 -- Tables with two places for each trader. Assumes nothing.
-use Rattle.std.proofs.Common.{◌≡◌, ℕ, zero, suc, ◌+◌, ◌*◌, ◌<◌, ◌≤◌, ◌%◌, Bool, true, false, cond, eqb, List, ◌∷◌, length, get_or, Option, refl, ap, sym, subst, ◌∙◌, ◌⊎◌, ◌≢◌, ⊎_elim, arith}
+use Rattle.std.proofs.Common.{◌≡◌, ℕ, zero, suc, ◌+◌, ◌*◌, ◌<◌, ◌≤◌, ◌%◌, Bool, true, false, cond, eqb, List, ◌∷◌, length, get_or, Option, refl, ap, sym, subst, ◌∙◌, ◌≢◌, ⊎_elim, arith}
 use Rattle.std.proofs.lemmas.List.{same_lists}
 use Rattle.std.proofs.lemmas.Bool.{cases_eq, eqb-true, eqb-false}
 use Rattle.std.specs.Array.{IsFromFnResultFrom}
@@ -64,5 +64,5 @@ made_of g f R ys i (suc n) call from k d l m =
     ⊎_elim
     (λ e. subst (λ j. R j (get_or ys j d)) (sym e) (subst (R i) (sym (from.2.1 d)) said.1))
     (λ e. made_of g f R ys (i + 1) n call (subst (λ h. IsFromFnResultFrom g h ys (i + 1) n) said.0 from.4) k d (omega (arith, l, e))
-        (omega (arith, m)))
+    (omega (arith, m)))
     (cases_eq k i)

@@ -144,7 +144,12 @@ fn settle(
 }
 
 /// The bid and the offer trade the smaller of their displayed sizes.
-pub fn fill(board: &mut Board, reserves: &mut ArrayVec<u32, 128>, bid: &Order, offer: &Order) -> Filled
+pub fn fill(
+    board: &mut Board,
+    reserves: &mut ArrayVec<u32, 128>,
+    bid: &Order,
+    offer: &Order,
+) -> Filled
     ensures { Fills (board_of board.old) reserves.old.items bid.now offer.now (board_of board.new) reserves.new.items result }
 {
     let size = bid.displayed.min(offer.displayed);

@@ -40,9 +40,7 @@ fn settle_privileges(board: &mut Board)
     ensures { board_of board.new ≡ with_privileges (privileges_in board.old.phase (board_of board.old)) (board_of board.old) }
 {
     match board.phase {
-        Phase::Rolling => board
-            .privileges
-            .grant(&board.orders, &board.completions),
+        Phase::Rolling => board.privileges.grant(&board.orders, &board.completions),
         Phase::Open | Phase::Timed | Phase::Fbs => board.privileges.clear(),
     }
 }

@@ -38,10 +38,7 @@ fn cause_of(kind: OrderType) -> Cause
 fn first_to_go(orders: &[Order], session: bool) -> Option<Order>
     ensures { result ≡ find (λ o. must_go session o.kind o.filled) orders.now }
 {
-    orders
-        .iter()
-        .find(|order| must_go(session, order))
-        .copied()
+    orders.iter().find(|order| must_go(session, order)).copied()
 }
 
 /// The lowest-numbered order that must go, and why.

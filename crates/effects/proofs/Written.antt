@@ -1,5 +1,5 @@
 -- The board and the reserves after an entry and after a change, put together from their parts. Assumes nothing.
-use Rattle.std.proofs.Common.{◌≡◌, ℕ, suc, ◌+◌, ◌<◌, ◌≤◌, min, Bool, false, true, cond, List, [], ◌∷◌, ◌++◌, length, Some, Option, refl, ap, ◌∙◌, inl, arith}
+use Rattle.std.proofs.Common.{◌≡◌, ℕ, suc, ◌+◌, ◌≤◌, min, Bool, false, true, cond, List, [], ◌∷◌, ◌++◌, length, Some, Option, refl, ap, ◌∙◌, inl, arith}
 use Rattle.std.specs.Prelude.{Result, Ok, Err, IsOk, OnOk, ◌↔◌}
 use Rattle.market.specs.declared.order.Order.{Order}
 use Rattle.market.specs.declared.state.Counters.{Counters}

@@ -1,5 +1,4 @@
-use Rattle.std.proofs.Common.{◌≡◌, ℕ, Option, rules, ◌∙◌, arith}
-use Rattle.market.specs.declared.state.Privilege.{Privilege}
+use Rattle.std.proofs.Common.{◌≡◌, rules, ◌∙◌, arith}
 use Rattle.rules.specs.Privileges.{earned, granted}
 use Rattle.board.specs.Seats.{trader_at, side_at}
 use Rattle.board.proofs.Tables.{tabled, made_of}

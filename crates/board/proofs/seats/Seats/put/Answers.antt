@@ -1,4 +1,4 @@
-use Rattle.std.proofs.Common.{rules, length, ℕ, ◌≤◌, sym, subst, ◌∙◌, ap, arith}
+use Rattle.std.proofs.Common.{rules, length, sym, ap, arith}
 use Rattle.std.proofs.lemmas.List.{set_past}
 use Rattle.rules.specs.Board.{place}
 use Rattle.board.proofs.seats.Seats.put.Goals as goal
