@@ -13,8 +13,9 @@ impl<B: Line<BidRank> + Drop, O: Line<OfferRank> + Drop, E: Line<EndTime> + Drop
         ensures { Played B.Line O.Line E.Line self.old self.new calls.now room.old room.new result }
     {
         let count = calls.len().min(room.len());
-        for i in 0..count {
-            room[i] = self.answer(calls[i]);
+        // The room is written by place: of what is written through an adapter of `iter_mut` nothing is known afterwards.
+        for (i, call) in calls[..count].iter().enumerate() {
+            room[i] = self.answer(*call);
         }
         count
     }

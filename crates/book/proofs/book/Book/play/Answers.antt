@@ -1,4 +1,7 @@
-use Rattle.std.proofs.Common.{◌≡◌, ◌<◌, length, refl, arith}
+use Rattle.std.proofs.Common.{◌≡◌, ◌<◌, ◌≤◌, length, take, refl, subst, arith, length-take-le}
+use Rattle.std.proofs.lemmas.List.{get_or-take}
+use Rattle.market.specs.declared.call.Call.{Call}
+use Rattle.book.specs.Stands.{Follows}
 use Rattle.book.proofs.Plays.{rest_more, none-played, one_more, all-played}
 use Rattle.book.proofs.book.Book.play.Goals as goal
 
@@ -9,17 +12,25 @@ loop-i-init g c =
 pub loop-i-preserved : goal.loop-i-preserved
 loop-i-preserved g c =
     let i = c.loop-i.i in
-    let test : i < c.min-count.result = c.loop-i-test.true in
-    let l : i < length c.args.calls.now = omega (arith, c.min-count.ensures) in
+    let n = c.min-count.result in
+    let calls = c.args.calls.now in
+    let fits : n ≤ length calls = omega (arith, c.min-count.ensures) in
+    let taken : length (take n calls) ≡ n = length-take-le n calls fits in
+    let test : i < n = omega (arith, c.loop-i-test.true, taken) in
+    let l : i < length calls = omega arith in
     let l₀ : i < length c.args.room.now = omega (arith, c.min-count.ensures) in
     let l' : i < length c.loop-i.room = omega (arith, c.loop-i.auto.room) in (
-      one_more g.B.Line g.O.Line g.E.Line c.args.self.now c.loop-i.self _ c.args.calls.now c.loop-i.room i _ c.answer.result l l'
-          c.loop-i.invariant.0 c.answer.ensures,
+      one_more g.B.Line g.O.Line g.E.Line c.args.self.now c.loop-i.self _ calls c.loop-i.room i _ c.answer.result l l'
+          c.loop-i.invariant.0
+          (subst (λ (x : Call). Follows g.B.Line g.O.Line g.E.Line c.loop-i.self c.answer.new.self x c.answer.result) (get_or-take n calls i _ test) c.answer.ensures),
       rest_more c.loop-i.room c.args.room.now i c.answer.result l' l₀ c.loop-i.invariant.1,
     )
 
 pub returns : goal.returns
 returns g c =
-    let same : c.loop-i.i ≡ c.min-count.result = omega (arith, c.loop-i-test.false, c.loop-i.auto.i-end) in
+    let n = c.min-count.result in
+    let fits : n ≤ length c.args.calls.now = omega (arith, c.min-count.ensures) in
+    let taken : length (take n c.args.calls.now) ≡ n = length-take-le n c.args.calls.now fits in
+    let same : c.loop-i.i ≡ n = omega (arith, c.loop-i-test.false, c.loop-i.auto.i-end, taken) in
     all-played g.B.Line g.O.Line g.E.Line c.args.self.now c.loop-i.self c.args.calls.now c.args.room.now c.loop-i.room
-    c.loop-i.i c.min-count.result same c.min-count.ensures c.loop-i.invariant.0 c.loop-i.invariant.1
+    c.loop-i.i n same c.min-count.ensures c.loop-i.invariant.0 c.loop-i.invariant.1
