@@ -23,18 +23,18 @@ rest_more xs ys i a l l' e =
     let same : drop (i + 1) xs ≡ drop (i + 1) ys = cc in
     drop-set-lt (i + 1) xs i a (omega arith) ∙ same
 
-module _ {B O E : Type 0} (bl : Ghosts B BidRank) (ol : Ghosts O OfferRank) (el : Ghosts E EndTime) where
+module _ {L B O E : Type 0} (bl : Ghosts B BidRank) (ol : Ghosts O OfferRank) (el : Ghosts E EndTime) where
   -- the first i calls are played
-  abbrev pub SoFar : Book B O E → Book B O E → List Call → List Answer → ℕ → Type 0
+  abbrev pub SoFar : Book L B O E → Book L B O E → List Call → List Answer → ℕ → Type 0
   SoFar m m' calls room i =
       (k : Opening) (earlier : List Call) → Stands bl ol el m k earlier →
       Stands bl ol el m' k (earlier ++ take i calls) × (take i room ≡ answers k (run k opened earlier) (take i calls))
 
-  pub none-played : (m : Book B O E) (calls : List Call) (room : List Answer) → SoFar m m calls room 0
+  pub none-played : (m : Book L B O E) (calls : List Call) (room : List Answer) → SoFar m m calls room 0
   unfolding answers
   none-played m calls room k earlier w = (subst (λ (cs : List Call). Stands bl ol el m k cs) (sym (append-nil earlier)) w, refl)
 
-  pub one_more : (m m₁ m₂ : Book B O E) (calls : List Call) (room : List Answer) (i : ℕ) (d : Call) (a : Answer) → i < length calls → i < length room →
+  pub one_more : (m m₁ m₂ : Book L B O E) (calls : List Call) (room : List Answer) (i : ℕ) (d : Call) (a : Answer) → i < length calls → i < length room →
       SoFar m m₁ calls room i → Follows bl ol el m₁ m₂ (get_or calls i d) a → SoFar m m₂ calls (set room i a) (i + 1)
   unfolding answers
   one_more m m₁ m₂ calls room i d a l l' f g k earlier w =
@@ -51,7 +51,7 @@ module _ {B O E : Type 0} (bl : Ghosts B BidRank) (ol : Ghosts O OfferRank) (el 
             ap (answers k S) (sym e),
       )
 
-  pub all-played : (m m' : Book B O E) (calls : List Call) (room room' : List Answer) (i n : ℕ) → i ≡ n → n ≡ min (length calls) (length room) →
+  pub all-played : (m m' : Book L B O E) (calls : List Call) (room room' : List Answer) (i n : ℕ) → i ≡ n → n ≡ min (length calls) (length room) →
       SoFar m m' calls room' i → drop i room' ≡ drop i room → Played bl ol el m m' calls room room' n
   all-played m m' calls room room' i n e c f r =
       let f' = subst (λ (j : ℕ). SoFar m m' calls room' j) e f in

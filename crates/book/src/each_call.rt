@@ -14,6 +14,7 @@ use crate::book::Book;
 use calls::{cancelling, changing, entering, glancing, opening, ticking};
 use drawing::machine;
 use line::lines::Line;
+use memory::lines::BookLines;
 use market::answer::{Accepted, Answer, Summary};
 use market::call::{Call, OrderCancel, OrderChange, OrderEntry};
 use market::order::Side;
@@ -22,10 +23,10 @@ use market::record::Record;
 use market::refusal::Refusal;
 use market::settings::Settings;
 
-impl<B: Line<BidRank> + Drop, O: Line<OfferRank> + Drop, E: Line<EndTime> + Drop> Book<B, O, E> {
+impl<L: BookLines> Book<L> {
     /// A quiet book at time 0 without orders, over made settings and three lines, which it empties.
-    pub fn open(settings: Settings, bids: B, offers: O, ends: E) -> Book<B, O, E>
-        ensures { Stands B.Line O.Line E.Line result (opening_with B.Line O.Line E.Line settings bids offers ends) [] }
+    pub fn open(settings: Settings, bids: L::Bids, offers: L::Offers, ends: L::Ends) -> Book<L>
+        ensures { Stands L.Bids.Line L.Offers.Line L.Ends.Line result (opening_with L.Bids.Line L.Offers.Line L.Ends.Line settings bids offers ends) [] }
     {
         Book {
             memory: opening::open(settings, bids, offers, ends),
@@ -34,7 +35,7 @@ impl<B: Line<BidRank> + Drop, O: Line<OfferRank> + Drop, E: Line<EndTime> + Drop
 
     /// A new order; its number is answered.
     pub fn enter(&mut self, wanted: &OrderEntry) -> Result<u32, Refusal>
-        ensures follows { Follows B.Line O.Line E.Line self.old self.new (Entry wanted.now) (entry_answer result) }
+        ensures follows { Follows L.Bids.Line L.Offers.Line L.Ends.Line self.old self.new (Entry wanted.now) (entry_answer result) }
         ensures kept { is_ok result ≡ false → self.new ≡ self.old }
     {
         entering::enter(&mut self.memory, wanted)
@@ -42,7 +43,7 @@ impl<B: Line<BidRank> + Drop, O: Line<OfferRank> + Drop, E: Line<EndTime> + Drop
 
     /// Price and sizes of a live order, written anew.
     pub fn change(&mut self, wanted: &OrderChange) -> Result<(), Refusal>
-        ensures follows { Follows B.Line O.Line E.Line self.old self.new (Change wanted.now) (plain_answer result) }
+        ensures follows { Follows L.Bids.Line L.Offers.Line L.Ends.Line self.old self.new (Change wanted.now) (plain_answer result) }
         ensures kept { is_ok result ≡ false → self.new ≡ self.old }
     {
         changing::change(&mut self.memory, wanted)
@@ -50,7 +51,7 @@ impl<B: Line<BidRank> + Drop, O: Line<OfferRank> + Drop, E: Line<EndTime> + Drop
 
     /// A live order taken back.
     pub fn cancel(&mut self, wanted: &OrderCancel) -> Result<(), Refusal>
-        ensures follows { Follows B.Line O.Line E.Line self.old self.new (Cancel wanted.now) (plain_answer result) }
+        ensures follows { Follows L.Bids.Line L.Offers.Line L.Ends.Line self.old self.new (Cancel wanted.now) (plain_answer result) }
         ensures kept { is_ok result ≡ false → self.new ≡ self.old }
     {
         cancelling::cancel(&mut self.memory, wanted)
@@ -58,7 +59,7 @@ impl<B: Line<BidRank> + Drop, O: Line<OfferRank> + Drop, E: Line<EndTime> + Drop
 
     /// The time that the book is to reach.
     pub fn tick(&mut self, time: u64) -> Result<(), Refusal>
-        ensures follows { Follows B.Line O.Line E.Line self.old self.new (Tick time) (plain_answer result) }
+        ensures follows { Follows L.Bids.Line L.Offers.Line L.Ends.Line self.old self.new (Tick time) (plain_answer result) }
         ensures kept { is_ok result ≡ false → self.new ≡ self.old }
     {
         ticking::tick(&mut self.memory, time)
@@ -66,21 +67,21 @@ impl<B: Line<BidRank> + Drop, O: Line<OfferRank> + Drop, E: Line<EndTime> + Drop
 
     /// The tape's next record.
     pub fn draw(&mut self) -> Record
-        ensures { Follows B.Line O.Line E.Line self.old self.new Draw (Ok (Drawn result)) }
+        ensures { Follows L.Bids.Line L.Offers.Line L.Ends.Line self.old self.new Draw (Ok (Drawn result)) }
     {
         machine::draw(&mut self.memory)
     }
 
     /// A side at a glance; none if it is empty.
     pub fn summary(&self, side: Side) -> Option<Summary>
-        ensures { (k : Opening) (cs : List Call) → Stands B.Line O.Line E.Line self.now k cs → result ≡ summary_of (run k opened cs).board side }
+        ensures { (k : Opening) (cs : List Call) → Stands L.Bids.Line L.Offers.Line L.Ends.Line self.now k cs → result ≡ summary_of (run k opened cs).board side }
     {
         glancing::summary(&self.memory, side)
     }
 
     /// Any call, with its one answer.
     pub fn answer(&mut self, call: Call) -> Answer
-        ensures { Follows B.Line O.Line E.Line self.old self.new call result }
+        ensures { Follows L.Bids.Line L.Offers.Line L.Ends.Line self.old self.new call result }
     {
         match call {
             Call::Entry(wanted) => self.enter(&wanted).map(Accepted::Entered),

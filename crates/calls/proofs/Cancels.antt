@@ -27,8 +27,8 @@ use Rattle.memory.proofs.Showing.{Untouched, shows-replaced}
 use Rattle.calls.specs.Obeys.{plain_answer}
 use Rattle.calls.proofs.Replies.{broken, Replies, refused, accepted}
 
-module _ {B O E : Type 0} (bl : Ghosts B BidRank) (ol : Ghosts O OfferRank) (el : Ghosts E EndTime) where
-  pub cancel-refused : (m : Memory B O E) (k : Opening) (S : State) (c : OrderCancel) (r : Result (Unit {0}) Refusal) (x : Refusal) →
+module _ {L B O E : Type 0} (bl : Ghosts B BidRank) (ol : Ghosts O OfferRank) (el : Ghosts E EndTime) where
+  pub cancel-refused : (m : Memory L B O E) (k : Opening) (S : State) (c : OrderCancel) (r : Result (Unit {0}) Refusal) (x : Refusal) →
       IsErrAnd r (λ y. y ≡ x) → cancel_refusal (board_of m.board) c.trader c.number ≡ Some x → Shows bl ol el m k S →
       Replies bl ol el m k (plain_answer r) (step k S (Cancel c))
   unfolding step
@@ -37,7 +37,7 @@ module _ {B O E : Type 0} (bl : Ghosts B BidRank) (ol : Ghosts O OfferRank) (el 
       (ap (λ (z : Result (Unit {0}) Refusal). plain_answer z) (broken r h)) w
 
   -- the board and the reserves let the order go, then the lines
-  cancelled : (m m₁ m' : Memory B O E) (k : Opening) (S : State) (o : Order) (old new : Entries) → Sound k S → Shows bl ol el m k S →
+  cancelled : (m m₁ m' : Memory L B O E) (k : Opening) (S : State) (o : Order) (old new : Entries) → Sound k S → Shows bl ol el m k S →
       In o S.board.orders → Untouched bl ol el m m₁ →
       Cancels o (board_of m.board) (board_of m₁.board) m.reserves.items m₁.reserves.items →
       old ≡ entries_of (board_of m.board) o → new ≡ no_entries → Relisted bl ol el m₁ m' old new →
@@ -55,7 +55,7 @@ module _ {B O E : Type 0} (bl : Ghosts B BidRank) (ol : Ghosts O OfferRank) (el 
       u is (subst (λ (v : Board). Reserved S.hidden v.orders m₁.reserves.items) is (did.reserves 1 n S.hidden up w.reserves))
       (e ∙ ap (λ (v : Board). entries_of v o) w.board) f made
 
-  pub cancel-done : (m m₁ m' : Memory B O E) (k : Opening) (S : State) (c : OrderCancel) (o : Order) (old new : Entries) → Sound k S →
+  pub cancel-done : (m m₁ m' : Memory L B O E) (k : Opening) (S : State) (c : OrderCancel) (o : Order) (old new : Entries) → Sound k S →
       (cancel_refusal (board_of m.board) c.trader c.number ≡ None) × (owned (board_of m.board) c.trader c.number ≡ Some o) →
       Shows bl ol el m k S → Untouched bl ol el m m₁ →
       Cancels o (board_of m.board) (board_of m₁.board) m.reserves.items m₁.reserves.items →

@@ -45,13 +45,13 @@ other-stands b c o p h = lost-stands _ o b.phase b.session.buyer b.session.selle
 abbrev pub Told : Settings → Board → OrderChange → Option Refusal → Type 0
 Told s b c q = (k : Opening) → k.settings ≡ s → change_refusal k b c (is_size k c.reserve) ≡ q
 
-module _ {B O E : Type 0} (bl : Ghosts B BidRank) (ol : Ghosts O OfferRank) (el : Ghosts E EndTime) where
-  told_here : (m : Memory B O E) (k : Opening) (S : State) (c : OrderChange) (q : Option Refusal) → Shows bl ol el m k S →
+module _ {L B O E : Type 0} (bl : Ghosts B BidRank) (ol : Ghosts O OfferRank) (el : Ghosts E EndTime) where
+  told_here : (m : Memory L B O E) (k : Opening) (S : State) (c : OrderChange) (q : Option Refusal) → Shows bl ol el m k S →
       Told m.settings (board_of m.board) c q → change_refusal k S.board c (is_size k c.reserve) ≡ q
   told_here m k S c q w told =
       subst (λ (v : Board). Told m.settings v c q) w.board told k (sym (ap (λ (x : Opening). x.settings) w.opening))
 
-  pub change-refused : (m : Memory B O E) (k : Opening) (S : State) (c : OrderChange) (r : Result (Unit {0}) Refusal) (x : Refusal) →
+  pub change-refused : (m : Memory L B O E) (k : Opening) (S : State) (c : OrderChange) (r : Result (Unit {0}) Refusal) (x : Refusal) →
       IsErrAnd r (λ y. y ≡ x) → Told m.settings (board_of m.board) c (Some x) → Shows bl ol el m k S →
       Replies bl ol el m k (plain_answer r) (step k S (Change c))
   unfolding step
@@ -60,7 +60,7 @@ module _ {B O E : Type 0} (bl : Ghosts B BidRank) (ol : Ghosts O OfferRank) (el 
       (ap (λ (z : Result (Unit {0}) Refusal). plain_answer z) (broken r h)) w
 
   -- the board and the reserves are written anew, then the lines
-  changed-shown : (m m₁ m' : Memory B O E) (k : Opening) (S : State) (c : OrderChange) (o o' : Order) (old new : Entries) → Sound k S →
+  changed-shown : (m m₁ m' : Memory L B O E) (k : Opening) (S : State) (c : OrderChange) (o o' : Order) (old new : Entries) → Sound k S →
       Shows bl ol el m k S → In o S.board.orders → Untouched bl ol el m m₁ →
       Changes c o o' (board_of m.board) (board_of m₁.board) m.reserves.items m₁.reserves.items →
       old ≡ entries_of (board_of m.board) o → new ≡ entries_of (board_of m₁.board) o' → Relisted bl ol el m₁ m' old new →
@@ -79,7 +79,7 @@ module _ {B O E : Type 0} (bl : Ghosts B BidRank) (ol : Ghosts O OfferRank) (el 
       (e ∙ ap (λ (v : Board). entries_of v o) w.board)
       (f ∙ ap (λ (v : Board). entries_of v o') is ∙ ap (λ (x : Order). entries_of (changed_board b c o) x) did.order) made
 
-  pub change-done : (m m₁ m' : Memory B O E) (k : Opening) (S : State) (c : OrderChange) (o o' : Order) (old new : Entries) → Sound k S →
+  pub change-done : (m m₁ m' : Memory L B O E) (k : Opening) (S : State) (c : OrderChange) (o o' : Order) (old new : Entries) → Sound k S →
       ((j : Opening) → j.settings ≡ m.settings →
       (change_refusal j (board_of m.board) c (is_size j c.reserve) ≡ None) × (owned (board_of m.board) c.trader c.number ≡ Some o)) →
       Shows bl ol el m k S → Untouched bl ol el m m₁ →

@@ -56,37 +56,37 @@ side-room : (k : Opening) (b : Board) (e : OrderEntry) (t : Side) → count (on 
     count (on t) b.orders < room_for k t
 side-room k b e t h s = subst (λ (v : Side). count (on v) b.orders < room_for k v) (same_true t e.side s) h
 
-module _ {B O E : Type 0} (bl : Ghosts B BidRank) (ol : Ghosts O OfferRank) (el : Ghosts E EndTime) where
-  -- the refusal at this state
-  abbrev Refusal-is : Opening → State → OrderEntry → Option Refusal → Type 0
-  Refusal-is k S e q = entry_refusal k S.board e (is_size k e.reserve) ≡ q
+-- the refusal at this state
+abbrev Refusal-is : Opening → State → OrderEntry → Option Refusal → Type 0
+Refusal-is k S e q = entry_refusal k S.board e (is_size k e.reserve) ≡ q
 
-  refusal_is : (m : Memory B O E) (k : Opening) (S : State) (e : OrderEntry) (q : Option Refusal) (full : Bool) → Shows bl ol el m k S →
+module _ {L B O E : Type 0} (bl : Ghosts B BidRank) (ol : Ghosts O OfferRank) (el : Ghosts E EndTime) where
+  refusal_is : (m : Memory L B O E) (k : Opening) (S : State) (e : OrderEntry) (q : Option Refusal) (full : Bool) → Shows bl ol el m k S →
       Screens m.settings (board_of m.board) e q → line_full k S.board.orders e.side e.end ≡ full →
       Refusal-is k S e (or_next q (some_if full (Line Full) None))
   refusal_is m k S e q full w screens l =
       screened k S.board m.settings e q full (sym (ap (λ (x : Opening). x.settings) w.opening))
       (subst (λ (v : Board). Screens m.settings v e q) w.board screens) l
 
-  turned_down : (m : Memory B O E) (k : Opening) (S : State) (e : OrderEntry) (r : Result ℕ Refusal) (x : Refusal) → IsErrAnd r (λ y. y ≡ x) →
+  turned_down : (m : Memory L B O E) (k : Opening) (S : State) (e : OrderEntry) (r : Result ℕ Refusal) (x : Refusal) → IsErrAnd r (λ y. y ≡ x) →
       Refusal-is k S e (Some x) → Shows bl ol el m k S → Replies bl ol el m k (entry_answer r) (step k S (Entry e))
   unfolding step
   turned_down m k S e r x h q w =
       refused bl ol el m k S _ _ (entry_answer r) _ x q (ap (λ (z : Result ℕ Refusal). entry_answer z) (broken r h)) w
 
   -- by the board
-  pub entry-refused : (m : Memory B O E) (k : Opening) (S : State) (e : OrderEntry) (r : Result ℕ Refusal) (x : Refusal) → IsErrAnd r (λ y. y ≡ x) →
+  pub entry-refused : (m : Memory L B O E) (k : Opening) (S : State) (e : OrderEntry) (r : Result ℕ Refusal) (x : Refusal) → IsErrAnd r (λ y. y ≡ x) →
       Screens m.settings (board_of m.board) e (Some x) → Shows bl ol el m k S → Replies bl ol el m k (entry_answer r) (step k S (Entry e))
   entry-refused m k S e r x h screens w = turned_down m k S e r x h (refusal_is m k S e (Some x) _ w screens refl) w
 
-  line_refused : (m : Memory B O E) (k : Opening) (S : State) (e : OrderEntry) (r : Result ℕ Refusal) (f : LineFault) → IsErrAnd r (λ y. y ≡ Line f) →
+  line_refused : (m : Memory L B O E) (k : Opening) (S : State) (e : OrderEntry) (r : Result ℕ Refusal) (f : LineFault) → IsErrAnd r (λ y. y ≡ Line f) →
       Screens m.settings (board_of m.board) e None → line_full k S.board.orders e.side e.end ≡ true → f ≡ Full →
       Shows bl ol el m k S → Replies bl ol el m k (entry_answer r) (step k S (Entry e))
   line_refused m k S e r f h screens l is w =
       turned_down m k S e r (Line f) h (refusal_is m k S e None true w screens l ∙ ap (λ (x : LineFault). Some (Line x)) (sym is)) w
 
   -- by the side's line
-  pub side-refused : (m : Memory B O E) (k : Opening) (S : State) (e : OrderEntry) (r : Result ℕ Refusal) (f : LineFault) → IsErrAnd r (λ y. y ≡ Line f) →
+  pub side-refused : (m : Memory L B O E) (k : Opening) (S : State) (e : OrderEntry) (r : Result ℕ Refusal) (f : LineFault) → IsErrAnd r (λ y. y ≡ Line f) →
       Screens m.settings (board_of m.board) e None →
       Err f ≡ refused_if (leb (room_for k e.side) (count (on e.side) S.board.orders)) Full →
       Shows bl ol el m k S → Replies bl ol el m k (entry_answer r) (step k S (Entry e))
@@ -95,7 +95,7 @@ module _ {B O E : Type 0} (bl : Ghosts B BidRank) (ol : Ghosts O OfferRank) (el 
       let x = failed _ _ t in line_refused m k S e r f h screens (side-full _ _ x.0) x.1 w
 
   -- by the end line
-  pub end_refused : (m : Memory B O E) (k : Opening) (S : State) (e : OrderEntry) (r : Result ℕ Refusal) (f : LineFault) → IsErrAnd r (λ y. y ≡ Line f) →
+  pub end_refused : (m : Memory L B O E) (k : Opening) (S : State) (e : OrderEntry) (r : Result ℕ Refusal) (f : LineFault) → IsErrAnd r (λ y. y ≡ Line f) →
       Screens m.settings (board_of m.board) e None →
       Err f ≡ refused_if (is_some e.end && leb k.ends (count ending S.board.orders)) Full →
       Shows bl ol el m k S → Replies bl ol el m k (entry_answer r) (step k S (Entry e))
@@ -104,7 +104,7 @@ module _ {B O E : Type 0} (bl : Ghosts B BidRank) (ol : Ghosts O OfferRank) (el 
       let x = failed _ _ t in line_refused m k S e r f h screens (either-full _ _ x.0) x.1 w
 
   -- the board and the reserves take the order, then the lines
-  entered-shown : (m m₁ m' : Memory B O E) (k : Opening) (S : State) (e : OrderEntry) (o : Order) (new : Entries) → Sound k S → Shows bl ol el m k S →
+  entered-shown : (m m₁ m' : Memory L B O E) (k : Opening) (S : State) (e : OrderEntry) (o : Order) (new : Entries) → Sound k S → Shows bl ol el m k S →
       EntryPasses k S.board e → Untouched bl ol el m m₁ →
       Enters e o (board_of m.board) (board_of m₁.board) m.reserves.items m₁.reserves.items →
       new ≡ entries_of (board_of m₁.board) o → Enlisted bl ol el m₁ m' new → Shows bl ol el m' k (entered_state S e)
@@ -123,7 +123,7 @@ module _ {B O E : Type 0} (bl : Ghosts B BidRank) (ol : Ghosts O OfferRank) (el 
       (did.reserves 1 S.hidden passes.few up w.reserves))
       (f ∙ ap (λ (v : Board). entries_of v o) is ∙ ap (λ (x : Order). entries_of (entered_board b e) x) did.order) made
 
-  pub entry_done : (m m₁ m' : Memory B O E) (k : Opening) (S : State) (e : OrderEntry) (o : Order) (new : Entries) → Sound k S →
+  pub entry_done : (m m₁ m' : Memory L B O E) (k : Opening) (S : State) (e : OrderEntry) (o : Order) (new : Entries) → Sound k S →
       Screens m.settings (board_of m.board) e None →
       Ok tt ≡ refused_if (leb (room_for k e.side) (count (on e.side) S.board.orders)) Full →
       Ok tt ≡ refused_if (is_some e.end && leb k.ends (count ending S.board.orders)) Full →

@@ -21,8 +21,8 @@ pub record Emptied {L X : Type 0} (g : Ghosts L X) (l l' : L) : Type 0 where
   pub entries : g.entries l' ≡ []
   pub room : g.room l' ≡ g.room l
 
-module _ {B O E : Type 0} (bl : Ghosts B BidRank) (ol : Ghosts O OfferRank) (el : Ghosts E EndTime) where
-  opening-is : (m : Memory B O E) (s : Settings) (x : B) (y : O) (z : E) → m.settings ≡ s → bl.room m.bids ≡ bl.room x →
+module _ {L B O E : Type 0} (bl : Ghosts B BidRank) (ol : Ghosts O OfferRank) (el : Ghosts E EndTime) where
+  opening-is : (m : Memory L B O E) (s : Settings) (x : B) (y : O) (z : E) → m.settings ≡ s → bl.room m.bids ≡ bl.room x →
       ol.room m.offers ≡ ol.room y → el.room m.ends ≡ el.room z → opening_of bl ol el m ≡ opening_with bl ol el s x y z
   opening-is m s x y z e f g h =
       let make : Settings → ℕ → ℕ → ℕ → Opening = λ t p q r. record { settings = t; bids = p; offers = q; ends = r } in
@@ -31,7 +31,7 @@ module _ {B O E : Type 0} (bl : Ghosts B BidRank) (ol : Ghosts O OfferRank) (el 
       ap (λ q. make s (bl.room x) q (el.room m.ends)) g ∙
       ap (make s (bl.room x) (ol.room y)) h
 
-  pub opened-shown : (m : Memory B O E) (s : Settings) (x : B) (y : O) (z : E) → m.settings ≡ s → board_of m.board ≡ opened.board →
+  pub opened-shown : (m : Memory L B O E) (s : Settings) (x : B) (y : O) (z : E) → m.settings ≡ s → board_of m.board ≡ opened.board →
       m.reserves.items ≡ [] → Emptied bl x m.bids → Emptied ol y m.offers → Emptied el z m.ends →
       Shows bl ol el m (opening_with bl ol el s x y z) opened
   unfolding opened each

@@ -15,15 +15,15 @@ pub broken : {X F : Type 0} {e : F} (r : Result X F) → IsErrAnd r (λ y. y ≡
 broken (Ok x) h = absurd h
 broken (Err y) h = ap (λ z. Err z) h
 
-module _ {B O E : Type 0} (bl : Ghosts B BidRank) (ol : Ghosts O OfferRank) (el : Ghosts E EndTime) where
+module _ {L B O E : Type 0} (bl : Ghosts B BidRank) (ol : Ghosts O OfferRank) (el : Ghosts E EndTime) where
   -- the book shows the state of the reply, and this is its answer
-  abbrev pub Replies : Memory B O E → Opening → Answer → Answer × State → Type 0
+  abbrev pub Replies : Memory L B O E → Opening → Answer → Answer × State → Type 0
   Replies m k a reply = Shows bl ol el m k reply.1 × (a ≡ reply.0)
 
-  pub refused : (m : Memory B O E) (k : Opening) (S S' : State) (a b : Answer) (q : Option Refusal) (r : Refusal) → q ≡ Some r → b ≡ Err r →
+  pub refused : (m : Memory L B O E) (k : Opening) (S S' : State) (a b : Answer) (q : Option Refusal) (r : Refusal) → q ≡ Some r → b ≡ Err r →
       Shows bl ol el m k S → Replies m k b (replied q a S S')
   refused m k S S' a b q r e f w = subst (λ (x : Option Refusal). Replies m k b (replied x a S S')) (sym e) (w, f)
 
-  pub accepted : (m : Memory B O E) (k : Opening) (S S' : State) (a b : Answer) (q : Option Refusal) → q ≡ None → b ≡ a →
+  pub accepted : (m : Memory L B O E) (k : Opening) (S S' : State) (a b : Answer) (q : Option Refusal) → q ≡ None → b ≡ a →
       Shows bl ol el m k S' → Replies m k b (replied q a S S')
   accepted m k S S' a b q e f w = subst (λ (x : Option Refusal). Replies m k b (replied x a S S')) (sym e) (w, f)

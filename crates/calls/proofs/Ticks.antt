@@ -17,8 +17,8 @@ use Rattle.memory.proofs.Showing.{Untouched, shows-still}
 use Rattle.calls.specs.Obeys.{plain_answer}
 use Rattle.calls.proofs.Replies.{broken, Replies, refused, accepted}
 
-module _ {B O E : Type 0} (bl : Ghosts B BidRank) (ol : Ghosts O OfferRank) (el : Ghosts E EndTime) where
-  pub tick-refused : (m : Memory B O E) (k : Opening) (S : State) (t : ℕ) (r : Result (Unit {0}) Refusal) (x : Refusal) →
+module _ {L B O E : Type 0} (bl : Ghosts B BidRank) (ol : Ghosts O OfferRank) (el : Ghosts E EndTime) where
+  pub tick-refused : (m : Memory L B O E) (k : Opening) (S : State) (t : ℕ) (r : Result (Unit {0}) Refusal) (x : Refusal) →
       IsErrAnd r (λ y. y ≡ x) → tick_refusal (board_of m.board) t ≡ Some x → Shows bl ol el m k S →
       Replies bl ol el m k (plain_answer r) (step k S (Tick t))
   unfolding step
@@ -26,14 +26,14 @@ module _ {B O E : Type 0} (bl : Ghosts B BidRank) (ol : Ghosts O OfferRank) (el 
       refused bl ol el m k S _ (Ok Done) (plain_answer r) _ x (ap (λ (b : Board). tick_refusal b t) (sym w.board) ∙ e)
       (ap (λ (z : Result (Unit {0}) Refusal). plain_answer z) (broken r h)) w
 
-  ticked : (m m' : Memory B O E) (k : Opening) (S : State) (t : ℕ) → Shows bl ol el m k S → Untouched bl ol el m m' → m'.reserves ≡ m.reserves →
+  ticked : (m m' : Memory L B O E) (k : Opening) (S : State) (t : ℕ) → Shows bl ol el m k S → Untouched bl ol el m m' → m'.reserves ≡ m.reserves →
       board_of m'.board ≡ ticked_board (board_of m.board) t → Shows bl ol el m' k (record { board = ticked_board S.board t; hidden = S.hidden })
   unfolding ticked_board standing
   ticked m m' k S t w u r e =
       shows-still bl ol el m m' k S (record { board = ticked_board S.board t; hidden = S.hidden }) w u (e ∙ ap (λ (b : Board). ticked_board b t) w.board)
       (w.reserves ∙ sym (ap (λ x. x.items) r)) refl (λ p i. refl)
 
-  pub tick-done : (m m' : Memory B O E) (k : Opening) (S : State) (t : ℕ) → tick_refusal (board_of m.board) t ≡ None → Shows bl ol el m k S →
+  pub tick-done : (m m' : Memory L B O E) (k : Opening) (S : State) (t : ℕ) → tick_refusal (board_of m.board) t ≡ None → Shows bl ol el m k S →
       Untouched bl ol el m m' → m'.reserves ≡ m.reserves → board_of m'.board ≡ ticked_board (board_of m.board) t →
       Replies bl ol el m' k (Ok Done) (step k S (Tick t))
   unfolding step

@@ -21,8 +21,8 @@ abbrev pub plain_answer : Result (Unit {0}) Refusal → Answer
 plain_answer (Ok u) = Ok Done
 plain_answer (Err r) = Err r
 
-module _ {B O E : Type 0} (bl : Ghosts B BidRank) (ol : Ghosts O OfferRank) (el : Ghosts E EndTime) where
+module _ {L B O E : Type 0} (bl : Ghosts B BidRank) (ol : Ghosts O OfferRank) (el : Ghosts E EndTime) where
   -- the book shows the state that the rules define after the call, and answers what they define
-  abbrev pub Obeys : Memory B O E → Memory B O E → Call → Answer → Type 0
+  abbrev pub Obeys : Memory L B O E → Memory L B O E → Call → Answer → Type 0
   Obeys m m' c a =
       Whenever bl ol el m (λ k S. Shows bl ol el m' k (step k S c).1 × (a ≡ (step k S c).0))

@@ -6,6 +6,7 @@ ghost use Rattle.calls.specs.Obeys.{Obeys, plain_answer};
 use admission::calls::check_cancel;
 use effects::effects as on_board;
 use line::lines::Line;
+use memory::lines::BookLines;
 use market::call::OrderCancel;
 use market::rank::{BidRank, EndTime, OfferRank};
 use market::refusal::Refusal;
@@ -13,11 +14,11 @@ use memory::entries::Entries;
 use memory::memory::Memory;
 
 /// A live order is taken back: it leaves the board and the lines.
-pub fn cancel<B: Line<BidRank> + Drop, O: Line<OfferRank> + Drop, E: Line<EndTime> + Drop>(
-    memory: &mut Memory<B, O, E>,
+pub fn cancel<L: BookLines>(
+    memory: &mut Memory<L>,
     wanted: &OrderCancel,
 ) -> Result<(), Refusal>
-    ensures obeys { Obeys B.Line O.Line E.Line memory.old memory.new (Cancel wanted.now) (plain_answer result) }
+    ensures obeys { Obeys L.Bids.Line L.Offers.Line L.Ends.Line memory.old memory.new (Cancel wanted.now) (plain_answer result) }
     ensures kept { is_ok result ≡ false → memory.new ≡ memory.old }
 {
     let order = check_cancel(&memory.board, wanted)?;

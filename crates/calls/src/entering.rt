@@ -7,6 +7,7 @@ use crate::rooms::{check_end_line, check_side_line};
 use admission::calls::check_entry;
 use effects::effects as on_board;
 use line::lines::Line;
+use memory::lines::BookLines;
 use market::call::OrderEntry;
 use market::rank::{BidRank, EndTime, OfferRank};
 use market::refusal::Refusal;
@@ -14,11 +15,11 @@ use memory::entries::Entries;
 use memory::memory::Memory;
 
 /// A new order comes to the board and the lines; its number is answered. The lines are asked last: the board's own tests go first.
-pub fn enter<B: Line<BidRank> + Drop, O: Line<OfferRank> + Drop, E: Line<EndTime> + Drop>(
-    memory: &mut Memory<B, O, E>,
+pub fn enter<L: BookLines>(
+    memory: &mut Memory<L>,
     wanted: &OrderEntry,
 ) -> Result<u32, Refusal>
-    ensures obeys { Obeys B.Line O.Line E.Line memory.old memory.new (Entry wanted.now) (entry_answer result) }
+    ensures obeys { Obeys L.Bids.Line L.Offers.Line L.Ends.Line memory.old memory.new (Entry wanted.now) (entry_answer result) }
     ensures kept { is_ok result ≡ false → memory.new ≡ memory.old }
 {
     check_entry(&memory.board, &memory.settings, wanted, false)?;

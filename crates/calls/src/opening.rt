@@ -6,18 +6,19 @@ ghost use Rattle.calls.specs.Openings.{opening_with};
 use arrayvec::ArrayVec;
 use board::board::Board;
 use line::lines::Line;
+use memory::lines::BookLines;
 use market::rank::{BidRank, EndTime, OfferRank};
 use market::settings::Settings;
 use memory::memory::Memory;
 
 /// A quiet book at time 0 with these settings and lines, which are emptied.
-pub fn open<B: Line<BidRank> + Drop, O: Line<OfferRank> + Drop, E: Line<EndTime> + Drop>(
+pub fn open<L: BookLines>(
     settings: Settings,
-    mut bids: B,
-    mut offers: O,
-    mut ends: E,
-) -> Memory<B, O, E>
-    ensures { Shows B.Line O.Line E.Line result (opening_with B.Line O.Line E.Line settings bids offers ends) opened }
+    mut bids: L::Bids,
+    mut offers: L::Offers,
+    mut ends: L::Ends,
+) -> Memory<L>
+    ensures { Shows L.Bids.Line L.Offers.Line L.Ends.Line result (opening_with L.Bids.Line L.Offers.Line L.Ends.Line settings bids offers ends) opened }
 {
     bids.clear();
     offers.clear();

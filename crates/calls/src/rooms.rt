@@ -7,19 +7,16 @@ ghost use Rattle.rules.specs.Refusing.{room_for, ending};
 ghost use Rattle.admission.specs.Checks.{refused_if};
 ghost use Rattle.memory.specs.Shown.{Whenever};
 
-use line::lines::{Line, LineFault};
+use line::lines::LineFault;
+use memory::lines::BookLines;
 use market::order::Side;
 use market::rank::{BidRank, EndTime, OfferRank};
 use memory::memory::Memory;
 use queues::keeping::check_room;
 
 /// The line of the order's side must have room.
-pub(crate) fn check_side_line<
-    B: Line<BidRank> + Drop,
-    O: Line<OfferRank> + Drop,
-    E: Line<EndTime> + Drop,
->(memory: &Memory<B, O, E>, side: Side) -> Result<(), LineFault>
-    ensures { Whenever B.Line O.Line E.Line memory.now (λ k S. result ≡ refused_if (nat_le (room_for k side) (count (on side) S.board.orders)) Full) }
+pub(crate) fn check_side_line<L: BookLines>(memory: &Memory<L>, side: Side) -> Result<(), LineFault>
+    ensures { Whenever L.Bids.Line L.Offers.Line L.Ends.Line memory.now (λ k S. result ≡ refused_if (nat_le (room_for k side) (count (on side) S.board.orders)) Full) }
 {
     match side {
         Side::Bid => check_room(&memory.bids),
@@ -28,12 +25,8 @@ pub(crate) fn check_side_line<
 }
 
 /// If the order has an end time, the end line must have room.
-pub(crate) fn check_end_line<
-    B: Line<BidRank> + Drop,
-    O: Line<OfferRank> + Drop,
-    E: Line<EndTime> + Drop,
->(memory: &Memory<B, O, E>, end: Option<u64>) -> Result<(), LineFault>
-    ensures { Whenever B.Line O.Line E.Line memory.now (λ k S. result ≡ refused_if (is_some end && nat_le k.ends (count ending S.board.orders)) Full) }
+pub(crate) fn check_end_line<L: BookLines>(memory: &Memory<L>, end: Option<u64>) -> Result<(), LineFault>
+    ensures { Whenever L.Bids.Line L.Offers.Line L.Ends.Line memory.now (λ k S. result ≡ refused_if (is_some end && nat_le k.ends (count ending S.board.orders)) Full) }
 {
     match end {
         Some(_) => check_room(&memory.ends),

@@ -94,9 +94,9 @@ entry-kept {P} side of b n s p o h is =
 
 -- ---- the book
 
-module _ {B O E : Type 0} (bl : Ghosts B BidRank) (ol : Ghosts O OfferRank) (el : Ghosts E EndTime) where
+module _ {L B O E : Type 0} (bl : Ghosts B BidRank) (ol : Ghosts O OfferRank) (el : Ghosts E EndTime) where
   -- the lines list the trigger as it starts, and so all orders as they start
-  all-started : (m : Memory B O E) (b : Board) (os : List Order) (x : Order) (s : Side) (p : ℤ) (n : ℕ) → Ascends 1 n os → In x os → is_fbs b.phase ≡ false →
+  all-started : (m : Memory L B O E) (b : Board) (os : List Order) (x : Order) (s : Side) (p : ℤ) (n : ℕ) → Ascends 1 n os → In x os → is_fbs b.phase ≡ false →
       Queued bl ol el m (replace x.number (Some (started x.number s p x)) os) b → Queued bl ol el m (each (started x.number s p) os) b
   unfolding started
   all-started m b os x s p n up here h q =
@@ -112,7 +112,7 @@ module _ {B O E : Type 0} (bl : Ghosts B BidRank) (ol : Ghosts O OfferRank) (el 
       }
 
   -- z is the trigger as it starts, at the price of the passive order
-  pub begun : (m m' : Memory B O E) (held : Held) (k : Opening) (S : State) (x y z : Order) (p : ℤ) (old new : Entries) → Sound k S → Shows bl ol el m k S →
+  pub begun : (m m' : Memory L B O E) (held : Held) (k : Opening) (S : State) (x y z : Order) (p : ℤ) (old new : Entries) → Sound k S → Shows bl ol el m k S →
       decided k S.board ≡ begins x y → board_of held ≡ begun_board (board_of m.board) x y → p ≡ y.price → z ≡ started x.number y.side p x →
       old ≡ entries_of (board_of m.board) x → new ≡ entries_of (board_of held) z → Relisted bl ol el (with_board m held) m' old new →
       Shows bl ol el m' k (after S (begins x y)) × (Session m'.board.clock.time p y.number ≡ record_of S.hidden S.board (begins x y))

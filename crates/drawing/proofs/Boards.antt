@@ -7,10 +7,10 @@ use Rattle.board.specs.declared.board.Board.{Board as Held}
 use Rattle.memory.specs.declared.memory.Memory.{Memory}
 use Rattle.memory.proofs.Showing.{Untouched}
 
-abbrev pub with_board : {B O E : Type 0} → Memory B O E → Held → Memory B O E
+abbrev pub with_board : {L B O E : Type 0} → Memory L B O E → Held → Memory L B O E
 with_board m held =
     record { settings = m.settings; board = held; reserves = m.reserves; bids = m.bids; offers = m.offers; ends = m.ends }
 
-pub lines-alone : {B O E : Type 0} (bl : Ghosts B BidRank) (ol : Ghosts O OfferRank) (el : Ghosts E EndTime) (m : Memory B O E) (held : Held) →
+pub lines-alone : {L B O E : Type 0} (bl : Ghosts B BidRank) (ol : Ghosts O OfferRank) (el : Ghosts E EndTime) (m : Memory L B O E) (held : Held) →
     Untouched bl ol el m (with_board m held)
 lines-alone bl ol el m held = record { settings = refl; bids = refl; offers = refl; ends = refl }

@@ -19,8 +19,8 @@ use Rattle.memory.specs.declared.memory.Memory.{Memory}
 use Rattle.memory.specs.Shown.{Shows, Whenever}
 use Rattle.drawing.specs.Does.{after, Does, Draws}
 
-module _ {B O E : Type 0} (bl : Ghosts B BidRank) (ol : Ghosts O OfferRank) (el : Ghosts E EndTime) where
-  pub drawn : (m m' : Memory B O E) (d : Step) (r : Record) →
+module _ {L B O E : Type 0} (bl : Ghosts B BidRank) (ol : Ghosts O OfferRank) (el : Ghosts E EndTime) where
+  pub drawn : (m m' : Memory L B O E) (d : Step) (r : Record) →
       Whenever bl ol el m (λ k S. d ≡ decided k S.board) → Does bl ol el m m' d r → Draws bl ol el m m' r
   unfolding step draw
   drawn m m' d r due does k S sound w =
@@ -30,11 +30,11 @@ module _ {B O E : Type 0} (bl : Ghosts B BidRank) (ol : Ghosts O OfferRank) (el 
         ap (λ (z : Record). Ok (Drawn z)) (done.1 ∙ ap (record_of S.hidden S.board) e),
       )
 
-  phase-there : (m : Memory B O E) (k : Opening) (S : State) (p : Phase) → Shows bl ol el m k S → m.board.phase ≡ p → S.board.phase ≡ p
+  phase-there : (m : Memory L B O E) (k : Opening) (S : State) (p : Phase) → Shows bl ol el m k S → m.board.phase ≡ p → S.board.phase ≡ p
   phase-there m k S p w e = sym (ap (λ (b : Board). b.phase) w.board) ∙ e
 
   -- a session begins in Open alone
-  pub not-begun : (m : Memory B O E) (k : Opening) (S : State) (p : Phase) (x y : Order) → Shows bl ol el m k S → m.board.phase ≡ p →
+  pub not-begun : (m : Memory L B O E) (k : Opening) (S : State) (p : Phase) (x y : Order) → Shows bl ol el m k S → m.board.phase ≡ p →
       is_open p ≡ false → begins x y ≡ decided k S.board → ⊥
   not-begun m k S p x y w e f d =
       let b = S.board in
@@ -43,7 +43,7 @@ module _ {B O E : Type 0} (bl : Ghosts B BidRank) (ol : Ghosts O OfferRank) (el 
       both_ways (is_open b.phase) (ap is_open (phase-there m k S p w e) ∙ f) (and_parts (is_open b.phase) (meet b.orders) crossed).0
 
   -- Open does not end by itself
-  pub not-ended : (m : Memory B O E) (k : Opening) (S : State) (t : ℕ) → Shows bl ol el m k S → m.board.phase ≡ Open →
+  pub not-ended : (m : Memory L B O E) (k : Opening) (S : State) (t : ℕ) → Shows bl ol el m k S → m.board.phase ≡ Open →
       turns t ≡ decided k S.board → ⊥
   not-ended m k S t w e d =
       let b = S.board in

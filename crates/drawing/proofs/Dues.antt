@@ -101,38 +101,38 @@ first-due k b d e = ap (λ (v : Option Step). or_else v rests) e ∙ go (opening
 
 -- ---- in memory
 
-module _ {B O E : Type 0} (bl : Ghosts B BidRank) (ol : Ghosts O OfferRank) (el : Ghosts E EndTime) where
+module _ {L B O E : Type 0} (bl : Ghosts B BidRank) (ol : Ghosts O OfferRank) (el : Ghosts E EndTime) where
   -- its lines are in step with its board
-  pub bids-in-step : (m : Memory B O E) (k : Opening) (S : State) → Sound k S → Shows bl ol el m k S →
+  pub bids-in-step : (m : Memory L B O E) (k : Opening) (S : State) → Sound k S → Shows bl ol el m k S →
       InStep bid_ahead bid_entry bl m.bids (board_of m.board)
   bids-in-step m k S s w =
       subst (InStep bid_ahead bid_entry bl m.bids) (sym w.board)
       (record { below = S.board.counters.number; rising = s.row.rising; lists = w.queued.bids })
 
-  pub offers-in-step : (m : Memory B O E) (k : Opening) (S : State) → Sound k S → Shows bl ol el m k S →
+  pub offers-in-step : (m : Memory L B O E) (k : Opening) (S : State) → Sound k S → Shows bl ol el m k S →
       InStep offer_ahead offer_entry ol m.offers (board_of m.board)
   offers-in-step m k S s w =
       subst (InStep offer_ahead offer_entry ol m.offers) (sym w.board)
       (record { below = S.board.counters.number; rising = s.row.rising; lists = w.queued.offers })
 
-  pub ends-in-step : (m : Memory B O E) (k : Opening) (S : State) → Sound k S → Shows bl ol el m k S →
+  pub ends-in-step : (m : Memory L B O E) (k : Opening) (S : State) → Sound k S → Shows bl ol el m k S →
       InStep end_ahead (λ b. end_time) el m.ends (board_of m.board)
   ends-in-step m k S s w =
       subst (InStep end_ahead (λ b. end_time) el m.ends) (sym w.board)
       (record { below = S.board.counters.number; rising = s.row.rising; lists = w.queued.ends })
 
-  pub meets-there : (m : Memory B O E) (k : Opening) (S : State) (meets : Bool) → Shows bl ol el m k S → meets ≡ meet S.board.orders →
+  pub meets-there : (m : Memory L B O E) (k : Opening) (S : State) (meets : Bool) → Shows bl ol el m k S → meets ≡ meet S.board.orders →
       meets ≡ meet m.board.orders.items
   meets-there m k S meets w e = e ∙ ap (λ (b : Board). meet b.orders) (sym w.board)
 
   -- the order that one of this side meets
-  pub passive : (m : Memory B O E) (k : Opening) (S : State) (o : Order) (s : Side) (r : Option Order) → Shows bl ol el m k S → o.side ≡ s →
+  pub passive : (m : Memory L B O E) (k : Opening) (S : State) (o : Order) (s : Side) (r : Option Order) → Shows bl ol el m k S → o.side ≡ s →
       r ≡ first (on (other s)) (ahead (board_of m.board)) m.board.orders.items → r ≡ passive_for S.board (Some o)
   passive m k S o s r w e f =
       f ∙ ap (λ (v : Side). first (on (other v)) (ahead (board_of m.board)) m.board.orders.items) (sym e) ∙
       ap (λ (b : Board). passive_for b (Some o)) w.board
 
-  pub comes : (m : Memory B O E) (k : Opening) (S : State) (t : Option ℕ) (x : Option (Order × ℕ)) → Shows bl ol el m k S →
+  pub comes : (m : Memory L B O E) (k : Opening) (S : State) (t : Option ℕ) (x : Option (Order × ℕ)) → Shows bl ol el m k S →
       t ≡ phase_end m.board.phase m.settings m.board.session → x ≡ expiring m.board.clock.wished m.board.orders.items →
       earlier m.board.clock.wished t x ≡ coming k S.board
   unfolding coming

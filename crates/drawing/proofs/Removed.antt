@@ -32,9 +32,9 @@ removes-live k b o c d = (subst (Why k b) d (why k b)).1
 pub expires-live : (k : Opening) (b : Board) (o : Order) (t : ℕ) → decided k b ≡ expires o t → In o b.orders
 expires-live k b o t d = (subst (Why k b) d (why k b)).listed
 
-module _ {B O E : Type 0} (bl : Ghosts B BidRank) (ol : Ghosts O OfferRank) (el : Ghosts E EndTime) where
+module _ {L B O E : Type 0} (bl : Ghosts B BidRank) (ol : Ghosts O OfferRank) (el : Ghosts E EndTime) where
   -- the board and the reserves let the order go, then the lines
-  pub removed : (m m₁ m' : Memory B O E) (k : Opening) (S : State) (o : Order) (t : ℕ) (old new : Entries) → Sound k S → Shows bl ol el m k S →
+  pub removed : (m m₁ m' : Memory L B O E) (k : Opening) (S : State) (o : Order) (t : ℕ) (old new : Entries) → Sound k S → Shows bl ol el m k S →
       In o S.board.orders → Untouched bl ol el m m₁ →
       ((i j : ℕ) → Ascends i j m.board.orders.items → board_of m₁.board ≡ removed_board (board_of m.board) t o) →
       ((i j : ℕ) → Ascends i j m.board.orders.items →
@@ -55,7 +55,7 @@ module _ {B O E : Type 0} (bl : Ghosts B BidRank) (ol : Ghosts O OfferRank) (el 
       (e ∙ ap (λ (v : Board). entries_of v o) w.board) f made
 
   -- an order that is removed leaves at the time that the book has reached
-  pub removed-now : (m m' : Memory B O E) (k : Opening) (S : State) (o : Order) (c : Cause) (r : Record) → Sound k S → Shows bl ol el m k S →
+  pub removed-now : (m m' : Memory L B O E) (k : Opening) (S : State) (o : Order) (c : Cause) (r : Record) → Sound k S → Shows bl ol el m k S →
       decided k S.board ≡ removes o c → Leaves bl ol el m m' o m.board.clock.time →
       r ≡ Removal m.board.clock.time o.number o.displayed c →
       Shows bl ol el m' k (after S (removes o c)) × (r ≡ record_of S.hidden S.board (removes o c))

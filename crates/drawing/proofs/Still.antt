@@ -12,8 +12,8 @@ use Rattle.memory.specs.Shown.{Shows}
 use Rattle.memory.proofs.Showing.{Untouched, shows-still}
 use Rattle.drawing.specs.Does.{after}
 
-module _ {B O E : Type 0} (bl : Ghosts B BidRank) (ol : Ghosts O OfferRank) (el : Ghosts E EndTime) where
-  pub rested : (m m' : Memory B O E) (k : Opening) (S : State) → Shows bl ol el m k S → Untouched bl ol el m m' → m'.reserves ≡ m.reserves →
+module _ {L B O E : Type 0} (bl : Ghosts B BidRank) (ol : Ghosts O OfferRank) (el : Ghosts E EndTime) where
+  pub rested : (m m' : Memory L B O E) (k : Opening) (S : State) → Shows bl ol el m k S → Untouched bl ol el m m' → m'.reserves ≡ m.reserves →
       board_of m'.board ≡ rested_board (board_of m.board) → Shows bl ol el m' k (after S rests)
   unfolding board_after hidden_after rested_board standing
   rested m m' k S w u r e =

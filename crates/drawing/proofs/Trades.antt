@@ -123,9 +123,9 @@ bid-is-no-offer e = let zero-is-one : ◌≡◌ {A = ℕ} 0 1 = cc in omega arit
 apart : (k m : ℕ) (os : List Order) (x y : Order) → Ascends k m os → In x os → In y os → x.side ≡ Bid → y.side ≡ Offer → x.number ≡ y.number → ⊥
 apart k m os x y up i j p q e = bid-is-no-offer (sym p ∙ ap (λ (o : Order). o.side) (ascends-unique k m os x y up i j e) ∙ q)
 
-module _ {B O E : Type 0} (bl : Ghosts B BidRank) (ol : Ghosts O OfferRank) (el : Ghosts E EndTime) where
+module _ {L B O E : Type 0} (bl : Ghosts B BidRank) (ol : Ghosts O OfferRank) (el : Ghosts E EndTime) where
   -- the lines, after both orders are listed anew
-  pair-queued : (m m₁ m₂ m₃ : Memory B O E) (b : Board) (bid offer : Order) (size : ℕ) (f g : Remainder) (n : ℕ) (old new old' new' : Entries) →
+  pair-queued : (m m₁ m₂ m₃ : Memory L B O E) (b : Board) (bid offer : Order) (size : ℕ) (f g : Remainder) (n : ℕ) (old new old' new' : Entries) →
       Ascends 1 n b.orders → In bid b.orders → In offer b.orders → (bid.number ≡ offer.number → ⊥) → Untouched bl ol el m m₁ →
       old ≡ entries_of b bid → new ≡ afterwards (filled_board b bid offer size f g) (bid_after b bid size f) →
       old' ≡ entries_of b offer → new' ≡ afterwards (filled_board b bid offer size f g) (offer_after b offer size f g) →
@@ -155,7 +155,7 @@ module _ {B O E : Type 0} (bl : Ghosts B BidRank) (ol : Ghosts O OfferRank) (el 
       (λ p i d. second-half b bid offer size f g p d) made₂ q₁
 
   -- the state after a fill
-  pub traded : (m m₁ m₂ m₃ : Memory B O E) (k : Opening) (S : State) (bid offer : Order) (r : Filled) (old new old' new' : Entries) →
+  pub traded : (m m₁ m₂ m₃ : Memory L B O E) (k : Opening) (S : State) (bid offer : Order) (r : Filled) (old new old' new' : Entries) →
       Sound k S → Shows bl ol el m k S → decided k S.board ≡ fills bid offer → Untouched bl ol el m m₁ →
       Fills (board_of m.board) m.reserves.items bid offer (board_of m₁.board) m₁.reserves.items r →
       old ≡ entries_of (board_of m.board) bid → new ≡ afterwards (board_of m₁.board) r.bid →

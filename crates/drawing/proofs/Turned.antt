@@ -17,8 +17,8 @@ use Rattle.drawing.proofs.Boards.{with_board, lines-alone}
 use Rattle.drawing.proofs.Plain.{stands_alike}
 
 -- the book turned, from phase p
-module _ {B O E : Type 0} (bl : Ghosts B BidRank) (ol : Ghosts O OfferRank) (el : Ghosts E EndTime)
-    (m : Memory B O E) (held : Held) (k : Opening) (S : State) (t : ℕ) (w : Shows bl ol el m k S)
+module _ {L B O E : Type 0} (bl : Ghosts B BidRank) (ol : Ghosts O OfferRank) (el : Ghosts E EndTime)
+    (m : Memory L B O E) (held : Held) (k : Opening) (S : State) (t : ℕ) (w : Shows bl ol el m k S)
     (e : board_of held ≡ turned_board (board_of m.board) t) (p : Phase) (is : m.board.phase ≡ p) where
   phase : S.board.phase ≡ p
   phase = sym (ap (λ (b : Board). b.phase) w.board) ∙ is
@@ -41,7 +41,7 @@ module _ {B O E : Type 0} (bl : Ghosts B BidRank) (ol : Ghosts O OfferRank) (el 
   )
 
   -- both sides are ranked anew
-  pub turned-reranked : (m' : Memory B O E) → Sound k S → Reranked bl ol el (with_board m held) m' →
+  pub turned-reranked : (m' : Memory L B O E) → Sound k S → Reranked bl ol el (with_board m held) m' →
       Shows bl ol el m' k (after S (turns t)) × (turn_record p t ≡ record_of S.hidden S.board (turns t))
   unfolding board_after hidden_after turned_board
   turned-reranked m' q made = (

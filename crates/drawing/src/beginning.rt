@@ -4,6 +4,7 @@ ghost use Rattle.drawing.specs.Does.{Does};
 
 use draws::{edits, session};
 use line::lines::Line;
+use memory::lines::BookLines;
 use market::order::Order;
 use market::rank::{BidRank, EndTime, OfferRank};
 use market::record::Record;
@@ -11,12 +12,12 @@ use memory::entries::Entries;
 use memory::memory::Memory;
 
 /// Prices meet: the trigger, which is re-priced, begins a session at the price of the passive order. All others keep their ranks.
-pub fn begin<B: Line<BidRank> + Drop, O: Line<OfferRank> + Drop, E: Line<EndTime> + Drop>(
-    memory: &mut Memory<B, O, E>,
+pub fn begin<L: BookLines>(
+    memory: &mut Memory<L>,
     trigger: &Order,
     passive: &Order,
 ) -> Record
-    ensures { Does B.Line O.Line E.Line memory.old memory.new (begins trigger.now passive.now) result }
+    ensures { Does L.Bids.Line L.Offers.Line L.Ends.Line memory.old memory.new (begins trigger.now passive.now) result }
 {
     let old = Entries::of(&memory.board, trigger);
     session::begin_session(&mut memory.board, trigger, passive);

@@ -12,6 +12,7 @@ use board::orders::numbered;
 use draws::phases::phase_end;
 use draws::removals;
 use line::lines::Line;
+use memory::lines::BookLines;
 use market::order::{Order, Side};
 use market::rank::{BidRank, EndTime, OfferRank};
 use market::record::Cause;
@@ -45,11 +46,11 @@ fn incoming_order(board: &Board) -> Option<Order>
 }
 
 /// The first order of the side that the trigger meets.
-fn passive_for<B: Line<BidRank> + Drop, O: Line<OfferRank> + Drop, E: Line<EndTime> + Drop>(
-    memory: &Memory<B, O, E>,
+fn passive_for<L: BookLines>(
+    memory: &Memory<L>,
     trigger: &Order,
 ) -> Option<Order>
-    ensures { Whenever B.Line O.Line E.Line memory.now (λ k S. result ≡ passive_for S.board (Some trigger.now)) }
+    ensures { Whenever L.Bids.Line L.Offers.Line L.Ends.Line memory.now (λ k S. result ≡ passive_for S.board (Some trigger.now)) }
 {
     match trigger.side {
         Side::Bid => first_order(&memory.board, &memory.offers),
@@ -58,11 +59,11 @@ fn passive_for<B: Line<BidRank> + Drop, O: Line<OfferRank> + Drop, E: Line<EndTi
 }
 
 /// In Open, if prices meet, the incoming order begins a session with the first order of the other side.
-fn session_due<B: Line<BidRank> + Drop, O: Line<OfferRank> + Drop, E: Line<EndTime> + Drop>(
-    memory: &Memory<B, O, E>,
+fn session_due<L: BookLines>(
+    memory: &Memory<L>,
     meets: bool,
 ) -> Option<Due>
-    ensures { Whenever B.Line O.Line E.Line memory.now (λ k S. meets ≡ meet S.board.orders → meant_of result ≡ opening S.board) }
+    ensures { Whenever L.Bids.Line L.Offers.Line L.Ends.Line memory.now (λ k S. meets ≡ meet S.board.orders → meant_of result ≡ opening S.board) }
 {
     let Phase::Open = memory.board.phase else {
         return None;
@@ -76,11 +77,11 @@ fn session_due<B: Line<BidRank> + Drop, O: Line<OfferRank> + Drop, E: Line<EndTi
 }
 
 /// The first entitled order of each side.
-fn pair_due<B: Line<BidRank> + Drop, O: Line<OfferRank> + Drop, E: Line<EndTime> + Drop>(
-    memory: &Memory<B, O, E>,
+fn pair_due<L: BookLines>(
+    memory: &Memory<L>,
     meets: bool,
 ) -> Option<Due>
-    ensures { Whenever B.Line O.Line E.Line memory.now (λ k S. meets ≡ meet S.board.orders → meant_of result ≡ pairing S.board) }
+    ensures { Whenever L.Bids.Line L.Offers.Line L.Ends.Line memory.now (λ k S. meets ≡ meet S.board.orders → meant_of result ≡ pairing S.board) }
 {
     let bid = first_entitled(&memory.board, &memory.bids, meets)?;
     let offer = first_entitled(&memory.board, &memory.offers, meets)?;
@@ -100,10 +101,10 @@ fn earlier(wished: u64, turn: Option<u64>, ending: Option<(Order, u64)>) -> Opti
 }
 
 /// The earliest moment that is due by the wished time.
-fn moment_due<B: Line<BidRank> + Drop, O: Line<OfferRank> + Drop, E: Line<EndTime> + Drop>(
-    memory: &Memory<B, O, E>,
+fn moment_due<L: BookLines>(
+    memory: &Memory<L>,
 ) -> Option<Due>
-    ensures { Whenever B.Line O.Line E.Line memory.now (λ k S. meant_of result ≡ coming k S.board) }
+    ensures { Whenever L.Bids.Line L.Offers.Line L.Ends.Line memory.now (λ k S. meant_of result ≡ coming k S.board) }
 {
     let wished = memory.board.clock.wished;
     let turn = phase_end(&memory.board, &memory.settings);
@@ -120,10 +121,10 @@ fn removal_due(board: &Board) -> Option<Due>
 }
 
 /// The first of the steps that applies; none if nothing is left to do.
-pub fn next_step<B: Line<BidRank> + Drop, O: Line<OfferRank> + Drop, E: Line<EndTime> + Drop>(
-    memory: &Memory<B, O, E>,
+pub fn next_step<L: BookLines>(
+    memory: &Memory<L>,
 ) -> Option<Due>
-    ensures { Whenever B.Line O.Line E.Line memory.now (λ k S. or_else (meant_of result) rests ≡ decided k S.board) }
+    ensures { Whenever L.Bids.Line L.Offers.Line L.Ends.Line memory.now (λ k S. or_else (meant_of result) rests ≡ decided k S.board) }
 {
     let meets = prices_meet(&memory.bids, &memory.offers);
     session_due(memory, meets)

@@ -8,16 +8,17 @@ use crate::resting::rest;
 use crate::trading::trade;
 use crate::turning::turn;
 use line::lines::Line;
+use memory::lines::BookLines;
 use market::rank::{BidRank, EndTime, OfferRank};
 use market::record::Record;
 use market::state::Phase;
 use memory::memory::Memory;
 
 /// One draw does the first step that applies, and tells what it did.
-pub fn draw<B: Line<BidRank> + Drop, O: Line<OfferRank> + Drop, E: Line<EndTime> + Drop>(
-    memory: &mut Memory<B, O, E>,
+pub fn draw<L: BookLines>(
+    memory: &mut Memory<L>,
 ) -> Record
-    ensures { Draws B.Line O.Line E.Line memory.old memory.new result }
+    ensures { Draws L.Bids.Line L.Offers.Line L.Ends.Line memory.old memory.new result }
 {
     match (next_step(memory), memory.board.phase) {
         // Open moves to Timed.

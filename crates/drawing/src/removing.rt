@@ -5,6 +5,7 @@ ghost use Rattle.drawing.specs.Does.{Does, Leaves};
 
 use draws::removals;
 use line::lines::Line;
+use memory::lines::BookLines;
 use market::order::Order;
 use market::rank::{BidRank, EndTime, OfferRank};
 use market::record::{Cause, Record};
@@ -12,12 +13,12 @@ use memory::entries::Entries;
 use memory::memory::Memory;
 
 /// The order leaves the board and the lines, at this time.
-fn let_go<B: Line<BidRank> + Drop, O: Line<OfferRank> + Drop, E: Line<EndTime> + Drop>(
-    memory: &mut Memory<B, O, E>,
+fn let_go<L: BookLines>(
+    memory: &mut Memory<L>,
     order: &Order,
     time: u64,
 )
-    ensures { Leaves B.Line O.Line E.Line memory.old memory.new order.now time }
+    ensures { Leaves L.Bids.Line L.Offers.Line L.Ends.Line memory.old memory.new order.now time }
 {
     let old = Entries::of(&memory.board, order);
     removals::remove(&mut memory.board, &mut memory.reserves, order, time);
@@ -37,12 +38,12 @@ fn removal(order: &Order, time: u64, cause: Cause) -> Record
 }
 
 /// The order is removed for this cause, at the time that the book has reached.
-pub fn remove<B: Line<BidRank> + Drop, O: Line<OfferRank> + Drop, E: Line<EndTime> + Drop>(
-    memory: &mut Memory<B, O, E>,
+pub fn remove<L: BookLines>(
+    memory: &mut Memory<L>,
     order: &Order,
     cause: Cause,
 ) -> Record
-    ensures { Does B.Line O.Line E.Line memory.old memory.new (removes order.now cause) result }
+    ensures { Does L.Bids.Line L.Offers.Line L.Ends.Line memory.old memory.new (removes order.now cause) result }
 {
     let time = memory.board.clock.time;
     let_go(memory, order, time);
@@ -50,12 +51,12 @@ pub fn remove<B: Line<BidRank> + Drop, O: Line<OfferRank> + Drop, E: Line<EndTim
 }
 
 /// The order is removed as its end time comes.
-pub fn expire<B: Line<BidRank> + Drop, O: Line<OfferRank> + Drop, E: Line<EndTime> + Drop>(
-    memory: &mut Memory<B, O, E>,
+pub fn expire<L: BookLines>(
+    memory: &mut Memory<L>,
     order: &Order,
     time: u64,
 ) -> Record
-    ensures { Does B.Line O.Line E.Line memory.old memory.new (expires order.now time) result }
+    ensures { Does L.Bids.Line L.Offers.Line L.Ends.Line memory.old memory.new (expires order.now time) result }
 {
     let_go(memory, order, time);
     removal(order, time, Cause::End)

@@ -4,6 +4,7 @@ ghost use Rattle.drawing.specs.Does.{Does};
 
 use draws::fills::fill;
 use line::lines::Line;
+use memory::lines::BookLines;
 use market::order::Order;
 use market::rank::{BidRank, EndTime, OfferRank};
 use market::record::Record;
@@ -11,12 +12,12 @@ use memory::entries::Entries;
 use memory::memory::Memory;
 
 /// The bid and the offer trade; each is ranked anew, or leaves.
-pub fn trade<B: Line<BidRank> + Drop, O: Line<OfferRank> + Drop, E: Line<EndTime> + Drop>(
-    memory: &mut Memory<B, O, E>,
+pub fn trade<L: BookLines>(
+    memory: &mut Memory<L>,
     bid: &Order,
     offer: &Order,
 ) -> Record
-    ensures { Does B.Line O.Line E.Line memory.old memory.new (fills bid.now offer.now) result }
+    ensures { Does L.Bids.Line L.Offers.Line L.Ends.Line memory.old memory.new (fills bid.now offer.now) result }
 {
     let time = memory.board.clock.time;
     let bid_before = Entries::of(&memory.board, bid);

@@ -4,6 +4,7 @@ ghost use Rattle.drawing.specs.Does.{Does};
 
 use draws::phases;
 use line::lines::Line;
+use memory::lines::BookLines;
 use market::rank::{BidRank, EndTime, OfferRank};
 use market::record::Record;
 use market::state::Phase;
@@ -11,11 +12,11 @@ use memory::memory::Memory;
 
 /// The phase ends at this time. Only in the FBS Period do privileges count in an order's rank, so that both sides are ranked anew
 /// as it begins and as it ends.
-pub fn turn<B: Line<BidRank> + Drop, O: Line<OfferRank> + Drop, E: Line<EndTime> + Drop>(
-    memory: &mut Memory<B, O, E>,
+pub fn turn<L: BookLines>(
+    memory: &mut Memory<L>,
     time: u64,
 ) -> Record
-    ensures { Does B.Line O.Line E.Line memory.old memory.new (turns time) result }
+    ensures { Does L.Bids.Line L.Offers.Line L.Ends.Line memory.old memory.new (turns time) result }
 {
     let ended = memory.board.phase;
     phases::turn(&mut memory.board, time);

@@ -88,9 +88,9 @@ each_same (o ∷ os) e e' h = cons (h o (inl refl)) (each_same os e e' (λ p i. 
 
 -- ---- the lines
 
-module _ {B O E : Type 0} (bl : Ghosts B BidRank) (ol : Ghosts O OfferRank) (el : Ghosts E EndTime) where
+module _ {L B O E : Type 0} (bl : Ghosts B BidRank) (ol : Ghosts O OfferRank) (el : Ghosts E EndTime) where
   -- one order becomes r, or goes; the others stand as they stood
-  pub requeued : (m m' : Memory B O E) (b b' : Board) (os : List Order) (o : Order) (r : Option Order) (n : ℕ) → Ascends 1 n os → In o os →
+  pub requeued : (m m' : Memory L B O E) (b b' : Board) (os : List Order) (o : Order) (r : Option Order) (n : ℕ) → Ascends 1 n os → In o os →
       Keeps o.number r → Alike o r → ((p : Order) → In p os → ¬ (p.number ≡ o.number) → standing b' p ≡ standing b p) →
       Relisted bl ol el m m' (entries_of b o) (afterwards b' r) → Queued bl ol el m os b → Queued bl ol el m' (replace o.number r os) b'
   requeued m m' b b' os o r n up here keeps alike others made q =
@@ -101,7 +101,7 @@ module _ {B O E : Type 0} (bl : Ghosts B BidRank) (ol : Ghosts O OfferRank) (el 
       }
 
   -- one order more
-  pub queued-more : (m m' : Memory B O E) (b : Board) (os : List Order) (o : Order) (n : ℕ) → Ascends 1 n os → n ≤ o.number →
+  pub queued-more : (m m' : Memory L B O E) (b : Board) (os : List Order) (o : Order) (n : ℕ) → Ascends 1 n os → n ≤ o.number →
       (on Bid o ≡ true → count (on Bid) os < bl.room m.bids) → (on Offer o ≡ true → count (on Offer) os < ol.room m.offers) →
       (ending o ≡ true → count ending os < el.room m.ends) →
       Enlisted bl ol el m m' (entries_of b o) → Queued bl ol el m os b → Queued bl ol el m' (os ++ (o ∷ [])) b
@@ -113,7 +113,7 @@ module _ {B O E : Type 0} (bl : Ghosts B BidRank) (ol : Ghosts O OfferRank) (el 
       }
 
   -- the same orders in the same lines, on a board where they stand as they stood
-  pub queued-still : (m : Memory B O E) (b b' : Board) (os : List Order) → ((p : Order) → In p os → standing b' p ≡ standing b p) →
+  pub queued-still : (m : Memory L B O E) (b b' : Board) (os : List Order) → ((p : Order) → In p os → standing b' p ≡ standing b p) →
       Queued bl ol el m os b → Queued bl ol el m os b'
   queued-still m b b' os still q =
       record {
@@ -123,7 +123,7 @@ module _ {B O E : Type 0} (bl : Ghosts B BidRank) (ol : Ghosts O OfferRank) (el 
       }
 
   -- the lines are left alone
-  pub queued-by : (m m' : Memory B O E) (os : List Order) (b : Board) → m'.bids ≡ m.bids → m'.offers ≡ m.offers → m'.ends ≡ m.ends →
+  pub queued-by : (m m' : Memory L B O E) (os : List Order) (b : Board) → m'.bids ≡ m.bids → m'.offers ≡ m.offers → m'.ends ≡ m.ends →
       Queued bl ol el m os b → Queued bl ol el m' os b
   queued-by m m' os b x y z q =
       record {
@@ -134,7 +134,7 @@ module _ {B O E : Type 0} (bl : Ghosts B BidRank) (ol : Ghosts O OfferRank) (el 
 
   -- ---- settings and rooms
 
-  opening-is : (m m' : Memory B O E) → m'.settings ≡ m.settings → bl.room m'.bids ≡ bl.room m.bids →
+  opening-is : (m m' : Memory L B O E) → m'.settings ≡ m.settings → bl.room m'.bids ≡ bl.room m.bids →
       ol.room m'.offers ≡ ol.room m.offers → el.room m'.ends ≡ el.room m.ends → opening_of bl ol el m' ≡ opening_of bl ol el m
   opening-is m m' s x y z =
       let make : Settings → ℕ → ℕ → ℕ → Opening = λ t p q r. record { settings = t; bids = p; offers = q; ends = r } in
@@ -143,15 +143,15 @@ module _ {B O E : Type 0} (bl : Ghosts B BidRank) (ol : Ghosts O OfferRank) (el 
       ap (λ q. make m.settings (bl.room m.bids) q (el.room m'.ends)) y ∙
       ap (make m.settings (bl.room m.bids) (ol.room m.offers)) z
 
-  pub opening-relisted : (m m' : Memory B O E) (old new : Entries) → Relisted bl ol el m m' old new → opening_of bl ol el m' ≡ opening_of bl ol el m
+  pub opening-relisted : (m m' : Memory L B O E) (old new : Entries) → Relisted bl ol el m m' old new → opening_of bl ol el m' ≡ opening_of bl ol el m
   opening-relisted m m' old new r = opening-is m m' r.same.settings r.bids.room r.offers.room r.ends.room
 
-  pub opening-enlisted : (m m' : Memory B O E) (new : Entries) → Enlisted bl ol el m m' new → opening_of bl ol el m' ≡ opening_of bl ol el m
+  pub opening-enlisted : (m m' : Memory L B O E) (new : Entries) → Enlisted bl ol el m m' new → opening_of bl ol el m' ≡ opening_of bl ol el m
   opening-enlisted m m' new r = opening-is m m' r.same.settings r.bids.room r.offers.room r.ends.room
 
-  pub opening-reranked : (m m' : Memory B O E) → Reranked bl ol el m m' → opening_of bl ol el m' ≡ opening_of bl ol el m
+  pub opening-reranked : (m m' : Memory L B O E) → Reranked bl ol el m m' → opening_of bl ol el m' ≡ opening_of bl ol el m
   opening-reranked m m' r = opening-is m m' r.same.settings r.bids.room r.offers.room (ap el.room r.ends)
 
-  pub opening-alone : (m m' : Memory B O E) → m'.settings ≡ m.settings → m'.bids ≡ m.bids → m'.offers ≡ m.offers → m'.ends ≡ m.ends →
+  pub opening-alone : (m m' : Memory L B O E) → m'.settings ≡ m.settings → m'.bids ≡ m.bids → m'.offers ≡ m.offers → m'.ends ≡ m.ends →
       opening_of bl ol el m' ≡ opening_of bl ol el m
   opening-alone m m' s x y z = opening-is m m' s (ap bl.room x) (ap ol.room y) (ap el.room z)

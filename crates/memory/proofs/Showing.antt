@@ -23,22 +23,22 @@ use Rattle.memory.specs.Entries.{entries_of, afterwards}
 use Rattle.memory.specs.Shown.{opening_of, Queued, Shows, Enlisted, Relisted, Reranked}
 use Rattle.memory.proofs.Queues.{Alike, requeued, queued-more, queued-still, queued-by, opening-alone, opening-relisted, opening-enlisted, opening-reranked}
 
-module _ {B O E : Type 0} (bl : Ghosts B BidRank) (ol : Ghosts O OfferRank) (el : Ghosts E EndTime) where
+module _ {L B O E : Type 0} (bl : Ghosts B BidRank) (ol : Ghosts O OfferRank) (el : Ghosts E EndTime) where
   -- the lines of a book are left alone
-  pub record Untouched (m m' : Memory B O E) : Type 0 where
+  pub record Untouched (m m' : Memory L B O E) : Type 0 where
     pub settings : m'.settings ≡ m.settings
     pub bids : m'.bids ≡ m.bids
     pub offers : m'.offers ≡ m.offers
     pub ends : m'.ends ≡ m.ends
 
-  carry : (m m' : Memory B O E) (os : List Order) (b : Board) → Untouched m m' → Queued bl ol el m os b → Queued bl ol el m' os b
+  carry : (m m' : Memory L B O E) (os : List Order) (b : Board) → Untouched m m' → Queued bl ol el m os b → Queued bl ol el m' os b
   carry m m' os b u q = queued-by bl ol el m m' os b u.bids u.offers u.ends q
 
-  opens : (m m' : Memory B O E) → Untouched m m' → opening_of bl ol el m' ≡ opening_of bl ol el m
+  opens : (m m' : Memory L B O E) → Untouched m m' → opening_of bl ol el m' ≡ opening_of bl ol el m
   opens m m' u = opening-alone bl ol el m m' u.settings u.bids u.offers u.ends
 
   -- the same orders, which stand as they stood
-  pub shows-still : (m m' : Memory B O E) (k : Opening) (S S' : State) → Shows bl ol el m k S → Untouched m m' → board_of m'.board ≡ S'.board →
+  pub shows-still : (m m' : Memory L B O E) (k : Opening) (S S' : State) → Shows bl ol el m k S → Untouched m m' → board_of m'.board ≡ S'.board →
       Reserved S'.hidden S'.board.orders m'.reserves.items → S'.board.orders ≡ S.board.orders →
       ((p : Order) → In p S.board.orders → standing S'.board p ≡ standing S.board p) → Shows bl ol el m' k S'
   shows-still m m' k S S' w u b r os still =
@@ -51,7 +51,7 @@ module _ {B O E : Type 0} (bl : Ghosts B BidRank) (ol : Ghosts O OfferRank) (el 
       }
 
   -- one order becomes r, or goes; the board is edited first, then the lines
-  pub shows-replaced : (m m₁ m' : Memory B O E) (k : Opening) (S S' : State) (o : Order) (r : Option Order) (old new : Entries) (n : ℕ) →
+  pub shows-replaced : (m m₁ m' : Memory L B O E) (k : Opening) (S S' : State) (o : Order) (r : Option Order) (old new : Entries) (n : ℕ) →
       Ascends 1 n S.board.orders → Shows bl ol el m k S → In o S.board.orders → Keeps o.number r → Alike o r →
       S'.board.orders ≡ replace o.number r S.board.orders →
       ((p : Order) → In p S.board.orders → ¬ (p.number ≡ o.number) → standing S'.board p ≡ standing S.board p) →
@@ -69,7 +69,7 @@ module _ {B O E : Type 0} (bl : Ghosts B BidRank) (ol : Ghosts O OfferRank) (el 
       }
 
   -- one order more; the others stand as they stood
-  pub shows_more : (m m₁ m' : Memory B O E) (k : Opening) (S S' : State) (o : Order) (new : Entries) (n : ℕ) →
+  pub shows_more : (m m₁ m' : Memory L B O E) (k : Opening) (S S' : State) (o : Order) (new : Entries) (n : ℕ) →
       Ascends 1 n S.board.orders → n ≤ o.number → Shows bl ol el m k S → S'.board.orders ≡ S.board.orders ++ (o ∷ []) →
       ((p : Order) → In p S.board.orders → standing S'.board p ≡ standing S.board p) →
       (on Bid o ≡ true → count (on Bid) S.board.orders < k.bids) → (on Offer o ≡ true → count (on Offer) S.board.orders < k.offers) →
@@ -91,17 +91,17 @@ module _ {B O E : Type 0} (bl : Ghosts B BidRank) (ol : Ghosts O OfferRank) (el 
             (carry m m₁ S.board.orders S'.board u (queued-still bl ol el m S.board S'.board S.board.orders still w.queued)));
       }
 
-  abbrev Queues-bids : Memory B O E → Board → Type 0
+  abbrev Queues-bids : Memory L B O E → Board → Type 0
   Queues-bids m v = Lists bid_ahead bl m.bids v.orders (bid_entry v)
 
-  abbrev Queues-offers : Memory B O E → Board → Type 0
+  abbrev Queues-offers : Memory L B O E → Board → Type 0
   Queues-offers m v = Lists offer_ahead ol m.offers v.orders (offer_entry v)
 
-  abbrev Queues-ends : E → List Order → Type 0
-  Queues-ends l xs = Lists end_ahead el l xs end_time
+  abbrev Queues-ends : Memory L B O E → List Order → Type 0
+  Queues-ends m xs = Lists end_ahead el m.ends xs end_time
 
   -- both sides are ranked anew
-  pub shows-reranked : (m m₁ m' : Memory B O E) (k : Opening) (S S' : State) (n : ℕ) → Ascends 1 n S.board.orders → Shows bl ol el m k S →
+  pub shows-reranked : (m m₁ m' : Memory L B O E) (k : Opening) (S S' : State) (n : ℕ) → Ascends 1 n S.board.orders → Shows bl ol el m k S →
       S'.board.orders ≡ S.board.orders → count (on Bid) S.board.orders ≤ k.bids → count (on Offer) S.board.orders ≤ k.offers →
       Untouched m m₁ → board_of m₁.board ≡ S'.board → Reserved S'.hidden S'.board.orders m₁.reserves.items →
       Reranked bl ol el m₁ m' → Shows bl ol el m' k S'
@@ -123,6 +123,6 @@ module _ {B O E : Type 0} (bl : Ghosts B BidRank) (ol : Ghosts O OfferRank) (el 
         queued = record {
           bids = subst (λ (v : Board). Queues-bids m' v) b bids;
           offers = subst (λ (v : Board). Queues-offers m' v) b offers;
-          ends = subst (λ (l : E). Queues-ends l S'.board.orders) (sym made.ends) (subst (λ (xs : List Order). Queues-ends m₁.ends xs) (sym os) ends);
+          ends = subst (λ (l : E). Lists end_ahead el l S'.board.orders end_time) (sym made.ends) (subst (λ (xs : List Order). Queues-ends m₁ xs) (sym os) ends);
         };
       }

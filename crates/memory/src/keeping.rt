@@ -3,14 +3,15 @@ ghost use Rattle.memory.specs.Shown.{Enlisted, Relisted, Reranked};
 
 use crate::entries::Entries;
 use crate::memory::Memory;
+use crate::lines::BookLines;
 use line::lines::Line;
 use market::rank::{BidRank, EndTime, OfferRank};
 use queues::keeping;
 
-impl<B: Line<BidRank> + Drop, O: Line<OfferRank> + Drop, E: Line<EndTime> + Drop> Memory<B, O, E> {
+impl<L: BookLines> Memory<L> {
     /// Puts in the entries of a new order.
     pub fn enlist(&mut self, new: Entries)
-        ensures { Enlisted B.Line O.Line E.Line self.old self.new new }
+        ensures { Enlisted L.Bids.Line L.Offers.Line L.Ends.Line self.old self.new new }
     {
         keeping::enlist(&mut self.bids, new.bid);
         keeping::enlist(&mut self.offers, new.offer);
@@ -19,7 +20,7 @@ impl<B: Line<BidRank> + Drop, O: Line<OfferRank> + Drop, E: Line<EndTime> + Drop
 
     /// Puts the new entries of an order in place of its old ones.
     pub fn relist(&mut self, old: Entries, new: Entries)
-        ensures { Relisted B.Line O.Line E.Line self.old self.new old new }
+        ensures { Relisted L.Bids.Line L.Offers.Line L.Ends.Line self.old self.new old new }
     {
         keeping::relist(&mut self.bids, old.bid, new.bid);
         keeping::relist(&mut self.offers, old.offer, new.offer);
@@ -28,7 +29,7 @@ impl<B: Line<BidRank> + Drop, O: Line<OfferRank> + Drop, E: Line<EndTime> + Drop
 
     /// Fills the lines of both sides again, by the ranks on the board.
     pub fn rerank(&mut self)
-        ensures { Reranked B.Line O.Line E.Line self.old self.new }
+        ensures { Reranked L.Bids.Line L.Offers.Line L.Ends.Line self.old self.new }
     {
         keeping::refill(&mut self.bids, &self.board);
         keeping::refill(&mut self.offers, &self.board);

@@ -3,4 +3,5 @@
 
 pub mod entries;
 pub mod keeping;
+pub mod lines;
 pub mod memory;

@@ -7,6 +7,7 @@ use book::book::Book;
 use heap_row::heap_row::HeapRow;
 use intake::hold;
 use line::lines::Line;
+use memory::lines::BookLines;
 use market::answer::{Accepted, Answer};
 use market::call::Call;
 use market::rank::{BidRank, EndTime, OfferRank};
@@ -19,8 +20,8 @@ use wire_out::output::Output;
 use wire_out::write::write;
 
 /// The book's answer to one call.
-fn answer_to<B: Line<BidRank> + Drop, O: Line<OfferRank> + Drop, E: Line<EndTime> + Drop>(
-    book: &mut Book<B, O, E>,
+fn answer_to<L: BookLines>(
+    book: &mut Book<L>,
     call: Call,
 ) -> Answer {
     let mut room = [Ok(Accepted::Done)];
@@ -37,9 +38,9 @@ fn tell(rt: &HostRuntime, answer: Answer) -> io::Result<()> {
     }
 }
 
-fn serve<B: Line<BidRank> + Drop, O: Line<OfferRank> + Drop, E: Line<EndTime> + Drop>(
+fn serve<L: BookLines>(
     rt: &HostRuntime,
-    book: &mut Book<B, O, E>,
+    book: &mut Book<L>,
 ) -> io::Result<()> {
     let mut input = BufReader::new(rt.alloc(), rt.stdin())?;
     let mut held = Vec::new(rt.alloc());
@@ -56,6 +57,13 @@ fn serve<B: Line<BidRank> + Drop, O: Line<OfferRank> + Drop, E: Line<EndTime> + 
     Ok(())
 }
 
+/// Ordered rows for the ranks, and a heap for the end times.
+type Kept<'a> = (
+    OrderedRow<'a, BidRank>,
+    OrderedRow<'a, OfferRank>,
+    HeapRow<'a, EndTime>,
+);
+
 /// Ten years, the venue's periods, and rooms of 128: ordered rows for the ranks, and a heap for the end times.
 fn run(rt: &HostRuntime) -> anyhow::Result<()> {
     let Ok(settings) = Settings::new(10, 10_000, 10_000, 8_000) else {
@@ -64,7 +72,7 @@ fn run(rt: &HostRuntime) -> anyhow::Result<()> {
     let mut bids = [BidRank::default(); 128];
     let mut offers = [OfferRank::default(); 128];
     let mut ends = [EndTime::default(); 128];
-    let mut book = Book::open(
+    let mut book: Book<Kept> = Book::open(
         settings,
         OrderedRow::new(&mut bids),
         OrderedRow::new(&mut offers),

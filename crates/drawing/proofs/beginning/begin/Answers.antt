@@ -6,6 +6,6 @@ use Rattle.drawing.proofs.beginning.begin.Goals as goal
 pub returns : goal.returns
 returns g c k S sound w d =
     let fits : SFits w32 c.args.passive.now.price = search rules in
-    begun g.B.Line g.O.Line g.E.Line c.args.memory.now c.relist.new.self c.begin_session.new.board k S c.args.trigger.now
+    begun g.L.Bids.Line g.L.Offers.Line g.L.Ends.Line c.args.memory.now c.relist.new.self c.begin_session.new.board k S c.args.trigger.now
     c.args.passive.now c.started-started.result _ c.of-old.result c.of-new.result sound w d c.begin_session.ensures
     (to_z-of_z w32 c.args.passive.now.price fits) c.started-started.ensures c.of-old.ensures c.of-new.ensures c.relist.ensures

@@ -8,6 +8,6 @@ pub returns : goal.returns
 returns g c k S sound w =
     let m = c.args.memory.now in
     c.earlier.ensures ∙
-    comes g.B.Line g.O.Line g.E.Line m k S c.phase_end-turn.result c.first_ending-ending.result w
+    comes g.L.Bids.Line g.L.Offers.Line g.L.Ends.Line m k S c.phase_end-turn.result c.first_ending-ending.result w
     (c.phase_end-turn.ensures (subst Bounded (sym w.board) (bounded k S sound)))
-    (c.first_ending-ending.ensures (ends-in-step g.B.Line g.O.Line g.E.Line m k S sound w))
+    (c.first_ending-ending.ensures (ends-in-step g.L.Bids.Line g.L.Offers.Line g.L.Ends.Line m k S sound w))

@@ -10,22 +10,22 @@ use Rattle.drawing.proofs.due.pair_due.Goals as goal
 pub returns-in_err-bid : goal.returns-in_err-bid
 returns-in_err-bid g c k S sound w e =
     let m = c.args.memory.now in
-    let met = meets-there g.B.Line g.O.Line g.E.Line m k S c.args.meets w e in
-    let bid = c.in_err-bid.ensures (bids-in-step g.B.Line g.O.Line g.E.Line m k S sound w) met in
+    let met = meets-there g.L.Bids.Line g.L.Offers.Line g.L.Ends.Line m k S c.args.meets w e in
+    let bid = c.in_err-bid.ensures (bids-in-step g.L.Bids.Line g.L.Offers.Line g.L.Ends.Line m k S sound w) met in
     ap meant_of c.from_residual.ensures ∙ paired (board_of m.board) None (first_entitled (board_of m.board) Offer) bid refl ∙ ap pairing w.board
 
 pub returns-in_err-offer : goal.returns-in_err-offer
 returns-in_err-offer g c k S sound w e =
     let m = c.args.memory.now in
-    let met = meets-there g.B.Line g.O.Line g.E.Line m k S c.args.meets w e in
-    let bid = c.in_ok-bid.ensures (bids-in-step g.B.Line g.O.Line g.E.Line m k S sound w) met in
-    let offer = c.in_err-offer.ensures (offers-in-step g.B.Line g.O.Line g.E.Line m k S sound w) met in
+    let met = meets-there g.L.Bids.Line g.L.Offers.Line g.L.Ends.Line m k S c.args.meets w e in
+    let bid = c.in_ok-bid.ensures (bids-in-step g.L.Bids.Line g.L.Offers.Line g.L.Ends.Line m k S sound w) met in
+    let offer = c.in_err-offer.ensures (offers-in-step g.L.Bids.Line g.L.Offers.Line g.L.Ends.Line m k S sound w) met in
     ap meant_of c.from_residual-in_err-offer.ensures ∙ paired (board_of m.board) (Some c.in_ok-bid.bid) None bid offer ∙ ap pairing w.board
 
 pub returns : goal.returns
 returns g c k S sound w e =
     let m = c.args.memory.now in
-    let met = meets-there g.B.Line g.O.Line g.E.Line m k S c.args.meets w e in
-    let bid = c.in_ok-bid.ensures (bids-in-step g.B.Line g.O.Line g.E.Line m k S sound w) met in
-    let offer = c.in_ok-offer.ensures (offers-in-step g.B.Line g.O.Line g.E.Line m k S sound w) met in
+    let met = meets-there g.L.Bids.Line g.L.Offers.Line g.L.Ends.Line m k S c.args.meets w e in
+    let bid = c.in_ok-bid.ensures (bids-in-step g.L.Bids.Line g.L.Offers.Line g.L.Ends.Line m k S sound w) met in
+    let offer = c.in_ok-offer.ensures (offers-in-step g.L.Bids.Line g.L.Offers.Line g.L.Ends.Line m k S sound w) met in
     paired (board_of m.board) (Some c.in_ok-bid.bid) (Some c.in_ok-offer.offer) bid offer ∙ ap pairing w.board

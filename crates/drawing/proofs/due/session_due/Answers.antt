@@ -13,19 +13,19 @@ pub returns-then-not-meets : goal.returns-then-not-meets
 returns-then-not-meets g c k S sound w e =
     let m = c.args.memory.now in
     apart (board_of m.board) c.in-Open.is
-    (sym c.if-not-meets.true ∙ meets-there g.B.Line g.O.Line g.E.Line m k S c.args.meets w e) ∙ ap opening w.board
+    (sym c.if-not-meets.true ∙ meets-there g.L.Bids.Line g.L.Offers.Line g.L.Ends.Line m k S c.args.meets w e) ∙ ap opening w.board
 
 pub returns-in_err-trigger : goal.returns-in_err-trigger
 returns-in_err-trigger g c k S sound w e =
     let m = c.args.memory.now in
-    let meets = sym c.if-not-meets.false ∙ meets-there g.B.Line g.O.Line g.E.Line m k S c.args.meets w e in
+    let meets = sym c.if-not-meets.false ∙ meets-there g.L.Bids.Line g.L.Offers.Line g.L.Ends.Line m k S c.args.meets w e in
     ap meant_of c.from_residual.ensures ∙ met (board_of m.board) None None c.in-Open.is meets c.in_err-trigger.ensures refl ∙
     ap opening w.board
 
 pub returns-in_err-passive : goal.returns-in_err-passive
 returns-in_err-passive g c k S sound w e =
     let m = c.args.memory.now in
-    let meets = sym c.if-not-meets.false ∙ meets-there g.B.Line g.O.Line g.E.Line m k S c.args.meets w e in
+    let meets = sym c.if-not-meets.false ∙ meets-there g.L.Bids.Line g.L.Offers.Line g.L.Ends.Line m k S c.args.meets w e in
     let trigger = Some c.in_ok-trigger.trigger in
     ap meant_of c.from_residual-in_err-passive.ensures ∙
     met (board_of m.board) trigger None c.in-Open.is meets c.in_ok-trigger.ensures
@@ -34,7 +34,7 @@ returns-in_err-passive g c k S sound w e =
 pub returns : goal.returns
 returns g c k S sound w e =
     let m = c.args.memory.now in
-    let meets = sym c.if-not-meets.false ∙ meets-there g.B.Line g.O.Line g.E.Line m k S c.args.meets w e in
+    let meets = sym c.if-not-meets.false ∙ meets-there g.L.Bids.Line g.L.Offers.Line g.L.Ends.Line m k S c.args.meets w e in
     let trigger = Some c.in_ok-trigger.trigger in
     met (board_of m.board) trigger (Some c.in_ok-passive.passive) c.in-Open.is meets c.in_ok-trigger.ensures
     (c.in_ok-passive.ensures k S sound w ∙ ap (λ (b : Board). passive_for b trigger) (sym w.board)) ∙ ap opening w.board

@@ -6,46 +6,46 @@ use Rattle.drawing.proofs.machine.draw.Goals as goal
 
 pub returns-in-Some-Session-Open : goal.returns-in-Some-Session-Open
 returns-in-Some-Session-Open g c =
-    drawn g.B.Line g.O.Line g.E.Line c.args.memory.now c.begin.new.memory
+    drawn g.L.Bids.Line g.L.Offers.Line g.L.Ends.Line c.args.memory.now c.begin.new.memory
     (begins c.in-Some-Session-Open.trigger c.in-Some-Session-Open.passive) c.begin.result (search rules) c.begin.ensures
 
 pub returns-in-Some-PhaseEnd-Timed : goal.returns-in-Some-PhaseEnd-Timed
 returns-in-Some-PhaseEnd-Timed g c =
-    drawn g.B.Line g.O.Line g.E.Line c.args.memory.now c.turn.new.memory
+    drawn g.L.Bids.Line g.L.Offers.Line g.L.Ends.Line c.args.memory.now c.turn.new.memory
     (turns c.in-Some-PhaseEnd-Timed.time) c.turn.result (search rules) c.turn.ensures
 
 pub returns-in-Some-Pair-default : goal.returns-in-Some-Pair-default
 returns-in-Some-Pair-default g c =
-    drawn g.B.Line g.O.Line g.E.Line c.args.memory.now c.trade.new.memory
+    drawn g.L.Bids.Line g.L.Offers.Line g.L.Ends.Line c.args.memory.now c.trade.new.memory
     (fills c.in-Some-Pair-default.bid c.in-Some-Pair-default.offer) c.trade.result (search rules) c.trade.ensures
 
 pub returns-in-Some-Removal-default : goal.returns-in-Some-Removal-default
 returns-in-Some-Removal-default g c =
-    drawn g.B.Line g.O.Line g.E.Line c.args.memory.now c.remove.new.memory
+    drawn g.L.Bids.Line g.L.Offers.Line g.L.Ends.Line c.args.memory.now c.remove.new.memory
     (removes c.in-Some-Removal-default.order c.in-Some-Removal-default.cause) c.remove.result (search rules) c.remove.ensures
 
 pub returns-in-Some-Expiry-default : goal.returns-in-Some-Expiry-default
 returns-in-Some-Expiry-default g c =
-    drawn g.B.Line g.O.Line g.E.Line c.args.memory.now c.expire.new.memory
+    drawn g.L.Bids.Line g.L.Offers.Line g.L.Ends.Line c.args.memory.now c.expire.new.memory
     (expires c.in-Some-Expiry-default.order c.in-Some-Expiry-default.time) c.expire.result (search rules) c.expire.ensures
 
 pub returns-in-None-default : goal.returns-in-None-default
 returns-in-None-default g c =
-    drawn g.B.Line g.O.Line g.E.Line c.args.memory.now c.rest-in-None-default.new.memory rests c.rest-in-None-default.result
+    drawn g.L.Bids.Line g.L.Offers.Line g.L.Ends.Line c.args.memory.now c.rest-in-None-default.new.memory rests c.rest-in-None-default.result
     (search rules) c.rest-in-None-default.ensures
 
 pub returns-in-Some-Session-Timed : goal.returns-in-Some-Session-Timed
 returns-in-Some-Session-Timed g c k S sound w =
-    absurd (search (not-begun g.B.Line g.O.Line g.E.Line c.args.memory.now k S Timed, rules))
+    absurd (search (not-begun g.L.Bids.Line g.L.Offers.Line g.L.Ends.Line c.args.memory.now k S Timed, rules))
 
 pub returns-in-Some-Session-Rolling : goal.returns-in-Some-Session-Rolling
 returns-in-Some-Session-Rolling g c k S sound w =
-    absurd (search (not-begun g.B.Line g.O.Line g.E.Line c.args.memory.now k S Rolling, rules))
+    absurd (search (not-begun g.L.Bids.Line g.L.Offers.Line g.L.Ends.Line c.args.memory.now k S Rolling, rules))
 
 pub returns-in-Some-Session-Fbs : goal.returns-in-Some-Session-Fbs
 returns-in-Some-Session-Fbs g c k S sound w =
-    absurd (search (not-begun g.B.Line g.O.Line g.E.Line c.args.memory.now k S Fbs, rules))
+    absurd (search (not-begun g.L.Bids.Line g.L.Offers.Line g.L.Ends.Line c.args.memory.now k S Fbs, rules))
 
 pub returns-in-Some-PhaseEnd-Open : goal.returns-in-Some-PhaseEnd-Open
 returns-in-Some-PhaseEnd-Open g c k S sound w =
-    absurd (search (not-ended g.B.Line g.O.Line g.E.Line c.args.memory.now k S, rules))
+    absurd (search (not-ended g.L.Bids.Line g.L.Offers.Line g.L.Ends.Line c.args.memory.now k S, rules))

@@ -3,5 +3,5 @@ use Rattle.drawing.proofs.removing.remove.Goals as goal
 
 pub returns : goal.returns
 returns g c k S sound w d =
-    removed-now g.B.Line g.O.Line g.E.Line c.args.memory.now c.let_go.new.memory k S c.args.order.now c.args.cause
+    removed-now g.L.Bids.Line g.L.Offers.Line g.L.Ends.Line c.args.memory.now c.let_go.new.memory k S c.args.order.now c.args.cause
     c.removal.result sound w d c.let_go.ensures c.removal.ensures

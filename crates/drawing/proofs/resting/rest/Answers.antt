@@ -8,7 +8,7 @@ use Rattle.drawing.proofs.resting.rest.Goals as goal
 pub returns : goal.returns
 unfolding record_of
 returns g c k S sound w d = (
-  rested g.B.Line g.O.Line g.E.Line c.args.memory.now _ k S w
+  rested g.L.Bids.Line g.L.Offers.Line g.L.Ends.Line c.args.memory.now _ k S w
       (record { settings = refl; bids = refl; offers = refl; ends = refl }) refl c.rest.ensures,
   ap (λ (b : Board). Quiet b.clock.wished) w.board,
 )

@@ -4,6 +4,6 @@ use Rattle.drawing.proofs.trading.trade.Goals as goal
 
 pub returns : goal.returns
 returns g c k S sound w d =
-    traded g.B.Line g.O.Line g.E.Line c.args.memory.now _ _ _ k S c.args.bid.now c.args.offer.now c.fill-filled.result _ _ _ _
+    traded g.L.Bids.Line g.L.Offers.Line g.L.Ends.Line c.args.memory.now _ _ _ k S c.args.bid.now c.args.offer.now c.fill-filled.result _ _ _ _
     sound w d (record { settings = refl; bids = refl; offers = refl; ends = refl }) c.fill-filled.ensures
     c.of-bid_before.ensures c.after-bid_after.ensures c.of-offer_before.ensures c.after-offer_after.ensures c.relist.ensures c.relist-2.ensures

@@ -5,6 +5,6 @@ use Rattle.book.proofs.book.Book.enter.Goals as goal
 pub returns : goal.returns
 returns g c =
     record {
-      follows = onward g.B.Line g.O.Line g.E.Line c.args.self.now _ _ _ c.enter.ensures.obeys;
+      follows = onward g.L.Bids.Line g.L.Offers.Line g.L.Ends.Line c.args.self.now _ _ _ c.enter.ensures.obeys;
       kept = λ h. ap whole (c.enter.ensures.kept h);
     }

@@ -7,7 +7,7 @@ use Rattle.book.proofs.book.Book.play.Goals as goal
 
 pub loop-i-init : goal.loop-i-init
 loop-i-init g c =
-    (none-played g.B.Line g.O.Line g.E.Line c.args.self.now c.args.calls.now c.args.room.now, refl)
+    (none-played g.L.Bids.Line g.L.Offers.Line g.L.Ends.Line c.args.self.now c.args.calls.now c.args.room.now, refl)
 
 pub loop-i-preserved : goal.loop-i-preserved
 loop-i-preserved g c =
@@ -20,9 +20,9 @@ loop-i-preserved g c =
     let l : i < length calls = omega arith in
     let l₀ : i < length c.args.room.now = omega (arith, c.min-count.ensures) in
     let l' : i < length c.loop-i.room = omega (arith, c.loop-i.auto.room) in (
-      one_more g.B.Line g.O.Line g.E.Line c.args.self.now c.loop-i.self _ calls c.loop-i.room i _ c.answer.result l l'
+      one_more g.L.Bids.Line g.L.Offers.Line g.L.Ends.Line c.args.self.now c.loop-i.self _ calls c.loop-i.room i _ c.answer.result l l'
           c.loop-i.invariant.0
-          (subst (λ (x : Call). Follows g.B.Line g.O.Line g.E.Line c.loop-i.self c.answer.new.self x c.answer.result) (get_or-take n calls i _ test) c.answer.ensures),
+          (subst (λ (x : Call). Follows g.L.Bids.Line g.L.Offers.Line g.L.Ends.Line c.loop-i.self c.answer.new.self x c.answer.result) (get_or-take n calls i _ test) c.answer.ensures),
       rest_more c.loop-i.room c.args.room.now i c.answer.result l' l₀ c.loop-i.invariant.1,
     )
 
@@ -32,5 +32,5 @@ returns g c =
     let fits : n ≤ length c.args.calls.now = omega (arith, c.min-count.ensures) in
     let taken : length (take n c.args.calls.now) ≡ n = length-take-le n c.args.calls.now fits in
     let same : c.loop-i.i ≡ n = omega (arith, c.loop-i-test.false, c.loop-i.auto.i-end, taken) in
-    all-played g.B.Line g.O.Line g.E.Line c.args.self.now c.loop-i.self c.args.calls.now c.args.room.now c.loop-i.room
+    all-played g.L.Bids.Line g.L.Offers.Line g.L.Ends.Line c.args.self.now c.loop-i.self c.args.calls.now c.args.room.now c.loop-i.room
     c.loop-i.i n same c.min-count.ensures c.loop-i.invariant.0 c.loop-i.invariant.1
