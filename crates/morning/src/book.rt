@@ -103,9 +103,7 @@ impl<O: Line<BidRank> + Drop, H: Line<BidRank> + Drop, E: Line<EndTime> + Drop> 
     pub fn cancel(&mut self, rt: &HostRuntime, number: u32) -> anyhow::Result<()> {
         match self.drop_order(number) {
             Ok(_) => println!(rt; "order {number} is cancelled")?,
-            Err(fault) => {
-                println!(rt; "order {number} cannot be cancelled: {fault}")?
-            }
+            Err(fault) => { println!(rt; "order {number} cannot be cancelled: {fault}")? }
         }
         Ok(())
     }
