@@ -5,6 +5,8 @@ ghost use Rattle.rules.specs.Refusing.{would_meet};
 
 use market::order::Side;
 
+// These are no methods of `Side`, which is a type of `market`: their contracts have the words of the rules.
+
 pub fn other_side(side: Side) -> Side
     ensures { result ≡ other side }
 {

@@ -17,6 +17,8 @@ pub struct Privileges {
     pub slots: Seats<Privilege>,
 }
 
+// These are no methods of `Privilege`, which is a type of `market`: their contracts have the words of the rules.
+
 /// The privilege, carried by this order from now on if no order has carried it.
 fn taken_by(privilege: Privilege, number: u32) -> Privilege
     ensures { result ≡ taken number privilege }

@@ -52,6 +52,7 @@ impl<T: Copy> Seats<T> {
     pub fn put(&mut self, seat: Seat, item: T)
         ensures { self.new ≡ place seat.trader seat.side item self.old }
     {
+        // An index and not `get_mut`: of a write through that, behind the model, the check did not find the proof.
         let number = seat.number();
         if number < self.places.len() {
             self.places[number] = Some(item);

@@ -10,6 +10,8 @@ use arrayvec::ArrayVec;
 use market::order::Order;
 
 impl Board {
+    // The reserves are a parameter of their own here and in all that changes them: what only decides is given the board alone.
+
     /// The order leaves the board, and its reserve with it. A Priority 1 that it carried is free again.
     pub fn strike(&mut self, reserves: &mut ArrayVec<u32, 128>, order: &Order)
         ensures { Strikes order.now (board_of self.old) (board_of self.new) reserves.old.items reserves.new.items }
