@@ -52,6 +52,7 @@ impl Seat {
             Side::Offer => 2 * self.trader as usize + 1,
         }
     }
+
     /// The seat with that number, if it has one.
     pub(crate) fn numbered(number: usize) -> Seat
         ensures trader { result.trader ≡ trader_at number }

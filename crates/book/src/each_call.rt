@@ -13,15 +13,13 @@ ghost use Rattle.book.specs.Stands.{Stands, Follows};
 use crate::book::Book;
 use calls::{cancelling, changing, entering, glancing, opening, ticking};
 use drawing::machine;
-use line::lines::Line;
-use memory::lines::BookLines;
 use market::answer::{Accepted, Answer, Summary};
 use market::call::{Call, OrderCancel, OrderChange, OrderEntry};
 use market::order::Side;
-use market::rank::{BidRank, EndTime, OfferRank};
 use market::record::Record;
 use market::refusal::Refusal;
 use market::settings::Settings;
+use memory::lines::BookLines;
 
 impl<L: BookLines> Book<L> {
     /// A quiet book at time 0 without orders, over made settings and three lines, which it empties.

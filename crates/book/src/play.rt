@@ -2,11 +2,9 @@
 ghost use Rattle.book.specs.Stands.{Played};
 
 use crate::book::Book;
-use line::lines::Line;
-use memory::lines::BookLines;
 use market::answer::Answer;
 use market::call::Call;
-use market::rank::{BidRank, EndTime, OfferRank};
+use memory::lines::BookLines;
 
 impl<L: BookLines> Book<L> {
     /// Answers the calls one after another, as many as there is room for answers, and says how many.

@@ -5,19 +5,14 @@ ghost use Rattle.calls.specs.Obeys.{Obeys, plain_answer};
 
 use admission::calls::check_cancel;
 use effects::effects as on_board;
-use line::lines::Line;
-use memory::lines::BookLines;
 use market::call::OrderCancel;
-use market::rank::{BidRank, EndTime, OfferRank};
 use market::refusal::Refusal;
 use memory::entries::Entries;
+use memory::lines::BookLines;
 use memory::memory::Memory;
 
 /// A live order is taken back: it leaves the board and the lines.
-pub fn cancel<L: BookLines>(
-    memory: &mut Memory<L>,
-    wanted: &OrderCancel,
-) -> Result<(), Refusal>
+pub fn cancel<L: BookLines>(memory: &mut Memory<L>, wanted: &OrderCancel) -> Result<(), Refusal>
     ensures obeys { Obeys L.Bids.Line L.Offers.Line L.Ends.Line memory.old memory.new (Cancel wanted.now) (plain_answer result) }
     ensures kept { is_ok result ≡ false → memory.new ≡ memory.old }
 {

@@ -5,19 +5,14 @@ ghost use Rattle.calls.specs.Obeys.{Obeys, plain_answer};
 
 use admission::calls::check_change;
 use effects::effects as on_board;
-use line::lines::Line;
-use memory::lines::BookLines;
 use market::call::OrderChange;
-use market::rank::{BidRank, EndTime, OfferRank};
 use market::refusal::Refusal;
 use memory::entries::Entries;
+use memory::lines::BookLines;
 use memory::memory::Memory;
 
 /// Price and sizes of a live order are written anew, and it is ranked by them.
-pub fn change<L: BookLines>(
-    memory: &mut Memory<L>,
-    wanted: &OrderChange,
-) -> Result<(), Refusal>
+pub fn change<L: BookLines>(memory: &mut Memory<L>, wanted: &OrderChange) -> Result<(), Refusal>
     ensures obeys { Obeys L.Bids.Line L.Offers.Line L.Ends.Line memory.old memory.new (Change wanted.now) (plain_answer result) }
     ensures kept { is_ok result ≡ false → memory.new ≡ memory.old }
 {

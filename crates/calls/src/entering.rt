@@ -6,19 +6,14 @@ ghost use Rattle.calls.specs.Obeys.{Obeys, entry_answer};
 use crate::rooms::{check_end_line, check_side_line};
 use admission::calls::check_entry;
 use effects::effects as on_board;
-use line::lines::Line;
-use memory::lines::BookLines;
 use market::call::OrderEntry;
-use market::rank::{BidRank, EndTime, OfferRank};
 use market::refusal::Refusal;
 use memory::entries::Entries;
+use memory::lines::BookLines;
 use memory::memory::Memory;
 
 /// A new order comes to the board and the lines; its number is answered. The lines are asked last: the board's own tests go first.
-pub fn enter<L: BookLines>(
-    memory: &mut Memory<L>,
-    wanted: &OrderEntry,
-) -> Result<u32, Refusal>
+pub fn enter<L: BookLines>(memory: &mut Memory<L>, wanted: &OrderEntry) -> Result<u32, Refusal>
     ensures obeys { Obeys L.Bids.Line L.Offers.Line L.Ends.Line memory.old memory.new (Entry wanted.now) (entry_answer result) }
     ensures kept { is_ok result ≡ false → memory.new ≡ memory.old }
 {

@@ -6,9 +6,8 @@ ghost use Rattle.calls.specs.Openings.{opening_with};
 use arrayvec::ArrayVec;
 use board::board::Board;
 use line::lines::Line;
-use memory::lines::BookLines;
-use market::rank::{BidRank, EndTime, OfferRank};
 use market::settings::Settings;
+use memory::lines::BookLines;
 use memory::memory::Memory;
 
 /// A quiet book at time 0 with these settings and lines, which are emptied.

@@ -8,9 +8,8 @@ ghost use Rattle.admission.specs.Checks.{refused_if};
 ghost use Rattle.memory.specs.Shown.{Whenever};
 
 use line::lines::LineFault;
-use memory::lines::BookLines;
 use market::order::Side;
-use market::rank::{BidRank, EndTime, OfferRank};
+use memory::lines::BookLines;
 use memory::memory::Memory;
 use queues::keeping::check_room;
 
@@ -25,7 +24,10 @@ pub(crate) fn check_side_line<L: BookLines>(memory: &Memory<L>, side: Side) -> R
 }
 
 /// If the order has an end time, the end line must have room.
-pub(crate) fn check_end_line<L: BookLines>(memory: &Memory<L>, end: Option<u64>) -> Result<(), LineFault>
+pub(crate) fn check_end_line<L: BookLines>(
+    memory: &Memory<L>,
+    end: Option<u64>,
+) -> Result<(), LineFault>
     ensures { Whenever L.Bids.Line L.Offers.Line L.Ends.Line memory.now (λ k S. result ≡ refused_if (is_some end && nat_le k.ends (count ending S.board.orders)) Full) }
 {
     match end {

@@ -5,17 +5,12 @@ ghost use Rattle.calls.specs.Obeys.{Obeys, plain_answer};
 
 use admission::calls::check_tick;
 use effects::effects as on_board;
-use line::lines::Line;
-use memory::lines::BookLines;
-use market::rank::{BidRank, EndTime, OfferRank};
 use market::refusal::Refusal;
+use memory::lines::BookLines;
 use memory::memory::Memory;
 
 /// The book is to reach this time; what comes by then is drawn.
-pub fn tick<L: BookLines>(
-    memory: &mut Memory<L>,
-    time: u64,
-) -> Result<(), Refusal>
+pub fn tick<L: BookLines>(memory: &mut Memory<L>, time: u64) -> Result<(), Refusal>
     ensures obeys { Obeys L.Bids.Line L.Offers.Line L.Ends.Line memory.old memory.new (Tick time) (plain_answer result) }
     ensures kept { is_ok result ≡ false → memory.new ≡ memory.old }
 {

@@ -3,20 +3,14 @@ ghost use Rattle.rules.specs.Draws.{begins};
 ghost use Rattle.drawing.specs.Does.{Does};
 
 use draws::{edits, session};
-use line::lines::Line;
-use memory::lines::BookLines;
 use market::order::Order;
-use market::rank::{BidRank, EndTime, OfferRank};
 use market::record::Record;
 use memory::entries::Entries;
+use memory::lines::BookLines;
 use memory::memory::Memory;
 
 /// Prices meet: the trigger, which is re-priced, begins a session at the price of the passive order. All others keep their ranks.
-pub fn begin<L: BookLines>(
-    memory: &mut Memory<L>,
-    trigger: &Order,
-    passive: &Order,
-) -> Record
+pub fn begin<L: BookLines>(memory: &mut Memory<L>, trigger: &Order, passive: &Order) -> Record
     ensures { Does L.Bids.Line L.Offers.Line L.Ends.Line memory.old memory.new (begins trigger.now passive.now) result }
 {
     let old = Entries::of(&memory.board, trigger);

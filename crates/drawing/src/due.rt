@@ -11,12 +11,10 @@ use board::board::Board;
 use board::orders::numbered;
 use draws::phases::phase_end;
 use draws::removals;
-use line::lines::Line;
-use memory::lines::BookLines;
 use market::order::{Order, Side};
-use market::rank::{BidRank, EndTime, OfferRank};
 use market::record::Cause;
 use market::state::Phase;
+use memory::lines::BookLines;
 use memory::memory::Memory;
 use queues::best::prices_meet;
 use queues::ends::first_ending;
@@ -46,10 +44,7 @@ fn incoming_order(board: &Board) -> Option<Order>
 }
 
 /// The first order of the side that the trigger meets.
-fn passive_for<L: BookLines>(
-    memory: &Memory<L>,
-    trigger: &Order,
-) -> Option<Order>
+fn passive_for<L: BookLines>(memory: &Memory<L>, trigger: &Order) -> Option<Order>
     ensures { Whenever L.Bids.Line L.Offers.Line L.Ends.Line memory.now (λ k S. result ≡ passive_for S.board (Some trigger.now)) }
 {
     match trigger.side {
@@ -59,10 +54,7 @@ fn passive_for<L: BookLines>(
 }
 
 /// In Open, if prices meet, the incoming order begins a session with the first order of the other side.
-fn session_due<L: BookLines>(
-    memory: &Memory<L>,
-    meets: bool,
-) -> Option<Due>
+fn session_due<L: BookLines>(memory: &Memory<L>, meets: bool) -> Option<Due>
     ensures { Whenever L.Bids.Line L.Offers.Line L.Ends.Line memory.now (λ k S. meets ≡ meet S.board.orders → meant_of result ≡ opening S.board) }
 {
     let Phase::Open = memory.board.phase else {
@@ -77,10 +69,7 @@ fn session_due<L: BookLines>(
 }
 
 /// The first entitled order of each side.
-fn pair_due<L: BookLines>(
-    memory: &Memory<L>,
-    meets: bool,
-) -> Option<Due>
+fn pair_due<L: BookLines>(memory: &Memory<L>, meets: bool) -> Option<Due>
     ensures { Whenever L.Bids.Line L.Offers.Line L.Ends.Line memory.now (λ k S. meets ≡ meet S.board.orders → meant_of result ≡ pairing S.board) }
 {
     let bid = first_entitled(&memory.board, &memory.bids, meets)?;
@@ -101,9 +90,7 @@ fn earlier(wished: u64, turn: Option<u64>, ending: Option<(Order, u64)>) -> Opti
 }
 
 /// The earliest moment that is due by the wished time.
-fn moment_due<L: BookLines>(
-    memory: &Memory<L>,
-) -> Option<Due>
+fn moment_due<L: BookLines>(memory: &Memory<L>) -> Option<Due>
     ensures { Whenever L.Bids.Line L.Offers.Line L.Ends.Line memory.now (λ k S. meant_of result ≡ coming k S.board) }
 {
     let wished = memory.board.clock.wished;
@@ -121,9 +108,7 @@ fn removal_due(board: &Board) -> Option<Due>
 }
 
 /// The first of the steps that applies; none if nothing is left to do.
-pub fn next_step<L: BookLines>(
-    memory: &Memory<L>,
-) -> Option<Due>
+pub fn next_step<L: BookLines>(memory: &Memory<L>) -> Option<Due>
     ensures { Whenever L.Bids.Line L.Offers.Line L.Ends.Line memory.now (λ k S. or_else (meant_of result) rests ≡ decided k S.board) }
 {
     let meets = prices_meet(&memory.bids, &memory.offers);

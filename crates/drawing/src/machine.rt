@@ -7,17 +7,13 @@ use crate::removing::{expire, remove};
 use crate::resting::rest;
 use crate::trading::trade;
 use crate::turning::turn;
-use line::lines::Line;
-use memory::lines::BookLines;
-use market::rank::{BidRank, EndTime, OfferRank};
 use market::record::Record;
 use market::state::Phase;
+use memory::lines::BookLines;
 use memory::memory::Memory;
 
 /// One draw does the first step that applies, and tells what it did.
-pub fn draw<L: BookLines>(
-    memory: &mut Memory<L>,
-) -> Record
+pub fn draw<L: BookLines>(memory: &mut Memory<L>) -> Record
     ensures { Draws L.Bids.Line L.Offers.Line L.Ends.Line memory.old memory.new result }
 {
     match (next_step(memory), memory.board.phase) {

@@ -3,16 +3,12 @@ ghost use Rattle.rules.specs.Draws.{rests};
 ghost use Rattle.drawing.specs.Does.{Does};
 
 use draws::phases;
-use line::lines::Line;
-use memory::lines::BookLines;
-use market::rank::{BidRank, EndTime, OfferRank};
 use market::record::Record;
+use memory::lines::BookLines;
 use memory::memory::Memory;
 
 /// Nothing is left to do by the wished time.
-pub fn rest<L: BookLines>(
-    memory: &mut Memory<L>,
-) -> Record
+pub fn rest<L: BookLines>(memory: &mut Memory<L>) -> Record
     ensures { Does L.Bids.Line L.Offers.Line L.Ends.Line memory.old memory.new rests result }
 {
     let time = memory.board.clock.wished;

@@ -3,20 +3,14 @@ ghost use Rattle.rules.specs.Draws.{fills};
 ghost use Rattle.drawing.specs.Does.{Does};
 
 use draws::fills::fill;
-use line::lines::Line;
-use memory::lines::BookLines;
 use market::order::Order;
-use market::rank::{BidRank, EndTime, OfferRank};
 use market::record::Record;
 use memory::entries::Entries;
+use memory::lines::BookLines;
 use memory::memory::Memory;
 
 /// The bid and the offer trade; each is ranked anew, or leaves.
-pub fn trade<L: BookLines>(
-    memory: &mut Memory<L>,
-    bid: &Order,
-    offer: &Order,
-) -> Record
+pub fn trade<L: BookLines>(memory: &mut Memory<L>, bid: &Order, offer: &Order) -> Record
     ensures { Does L.Bids.Line L.Offers.Line L.Ends.Line memory.old memory.new (fills bid.now offer.now) result }
 {
     let time = memory.board.clock.time;

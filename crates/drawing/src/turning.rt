@@ -3,19 +3,14 @@ ghost use Rattle.rules.specs.Draws.{turns};
 ghost use Rattle.drawing.specs.Does.{Does};
 
 use draws::phases;
-use line::lines::Line;
-use memory::lines::BookLines;
-use market::rank::{BidRank, EndTime, OfferRank};
 use market::record::Record;
 use market::state::Phase;
+use memory::lines::BookLines;
 use memory::memory::Memory;
 
 /// The phase ends at this time. Only in the FBS Period do privileges count in an order's rank, so that both sides are ranked anew
 /// as it begins and as it ends.
-pub fn turn<L: BookLines>(
-    memory: &mut Memory<L>,
-    time: u64,
-) -> Record
+pub fn turn<L: BookLines>(memory: &mut Memory<L>, time: u64) -> Record
     ensures { Does L.Bids.Line L.Offers.Line L.Ends.Line memory.old memory.new (turns time) result }
 {
     let ended = memory.board.phase;

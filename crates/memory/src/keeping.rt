@@ -2,10 +2,8 @@
 ghost use Rattle.memory.specs.Shown.{Enlisted, Relisted, Reranked};
 
 use crate::entries::Entries;
-use crate::memory::Memory;
 use crate::lines::BookLines;
-use line::lines::Line;
-use market::rank::{BidRank, EndTime, OfferRank};
+use crate::memory::Memory;
 use queues::keeping;
 
 impl<L: BookLines> Memory<L> {

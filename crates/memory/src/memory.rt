@@ -1,6 +1,6 @@
 //! A book in memory.
-use arrayvec::ArrayVec;
 use crate::lines::BookLines;
+use arrayvec::ArrayVec;
 use board::board::Board;
 use market::settings::Settings;
 

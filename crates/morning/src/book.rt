@@ -6,7 +6,7 @@ use market::rank::{BidRank, EndTime, OfOrder};
 use market::standing::Standing;
 use std::alloc::Global;
 use std::cmp::Reverse;
-use std::{fmt, io, iter};
+use std::{fmt, iter};
 
 /// The quotes by number, from 1; their ranks in a line that keeps its row in order and in a heap; and their end times.
 #[derive(Drop)]

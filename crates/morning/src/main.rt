@@ -11,7 +11,6 @@ use line::lines::Line;
 use market::rank::{BidRank, EndTime};
 use ordered_row::ordered_row::OrderedRow;
 use script::{Step, step_of};
-use std::io;
 
 fn obey<O: Line<BidRank> + Drop, H: Line<BidRank> + Drop, E: Line<EndTime> + Drop>(
     rt: &HostRuntime,

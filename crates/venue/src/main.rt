@@ -6,12 +6,11 @@ use anyhow::anyhow;
 use book::book::Book;
 use heap_row::heap_row::HeapRow;
 use intake::hold;
-use line::lines::Line;
-use memory::lines::BookLines;
 use market::answer::{Accepted, Answer};
 use market::call::Call;
 use market::rank::{BidRank, EndTime, OfferRank};
 use market::settings::Settings;
+use memory::lines::BookLines;
 use ordered_row::ordered_row::OrderedRow;
 use std::io;
 use std::io::{BufReader, Write};
@@ -20,10 +19,7 @@ use wire_out::output::Output;
 use wire_out::write::write;
 
 /// The book's answer to one call.
-fn answer_to<L: BookLines>(
-    book: &mut Book<L>,
-    call: Call,
-) -> Answer {
+fn answer_to<L: BookLines>(book: &mut Book<L>, call: Call) -> Answer {
     let mut room = [Ok(Accepted::Done)];
     let _ = book.play(&[call], &mut room);
     room[0]
@@ -38,10 +34,7 @@ fn tell(rt: &HostRuntime, answer: Answer) -> io::Result<()> {
     }
 }
 
-fn serve<L: BookLines>(
-    rt: &HostRuntime,
-    book: &mut Book<L>,
-) -> io::Result<()> {
+fn serve<L: BookLines>(rt: &HostRuntime, book: &mut Book<L>) -> io::Result<()> {
     let mut input = BufReader::new(rt.alloc(), rt.stdin())?;
     let mut held = Vec::new(rt.alloc());
     for _ in 0..u64::MAX {
