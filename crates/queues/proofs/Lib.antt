@@ -1,9 +1,11 @@
 pub mod Along
 pub mod Ending
+pub mod FirstFound
 pub mod Heads
 pub mod Held
 pub mod Kept
 pub mod Shown
 pub mod Sized
+pub mod Summed
 pub mod Totals
 pub mod Walked

@@ -1,6 +1,6 @@
 -- The first entries at the best price show what the summary totals. Assumes nothing.
-use Rattle.std.proofs.Common.{◌≡◌, ℕ, zero, suc, ◌+◌, ◌-◌, ◌<◌, ◌≤◌, Bool, true, false, cond, not, ◌&&◌, ◌||◌, ◌⊎◌, List, [], ◌∷◌, length, drop, ℤ, is_ok, Some, None, Ok, Err, Option, sym, refl, ap, ◌∙◌, subst, inl, inr, ⊎_elim, arith}
-use Rattle.std.proofs.lemmas.Bool.{and_parts, and_from, cond-true, cond-false}
+use Rattle.std.proofs.Common.{◌≡◌, ℕ, zero, suc, ◌+◌, Bool, true, false, cond, not, ◌&&◌, ◌||◌, ◌⊎◌, List, [], ◌∷◌, length, ℤ, is_ok, Some, None, Ok, Err, Option, sym, refl, ap, ◌∙◌, subst, inl, inr, ⊎_elim, arith}
+use Rattle.std.proofs.lemmas.Bool.{and_parts, and_from}
 use Rattle.line.specs.Order.{Order as TotalOrder}
 use Rattle.line.specs.Held.{leads, in_order, holds, without}
 use Rattle.line.specs.declared.lines.LineFault.TheVariants.{NotHeld}
@@ -23,7 +23,6 @@ use Rattle.queues.specs.Walks.{shown_at, displayed_by}
 use Rattle.queues.proofs.Shown.{Named, fitting-taken, left_in}
 use Rattle.queues.proofs.Held.{without-absent, head-once}
 use Rattle.queues.proofs.Heads.{head-leads, entry_of, side-of}
-use Rattle.queues.proofs.Along.{Here}
 use Rattle.queues.proofs.Walked.{first-not, first-is, order-back, follows}
 
 module _ (b : Board) (s : Side) (p : ℤ) where
@@ -105,31 +104,3 @@ module _ {X : Type 0} {before : X → X → Bool} (t : TotalOrder before) (s : S
       (λ o x i h. ap displayed_of (order-back s e has number named before b agrees j m b.orders a o x i h)) in
       let made : ℕ → Option Summary = λ n. Some (record { price = p; size = n }) in
       ap made (sym size) ∙ sym (ap (summary_at b s) is)
-
--- ---- the walk, with d - n entries to go
-
-module _ {X : Type 0} (price : X → ℤ) (shown : X → ℕ) (d n : ℕ) (p : ℤ) (xs : List X) where
-  shown-none : (k : ℕ) → shown_at price shown k p [] ≡ 0
-  shown-none zero = refl
-  shown-none (suc k) = refl
-
-  -- no entry is left
-  pub shown-end : drop n xs ≡ [] → shown_at price shown (d - n) p (drop n xs) ≡ 0
-  shown-end h = ap (shown_at price shown (d - n) p) h ∙ shown-none (d - n)
-
-  -- all are counted
-  pub shown-all : d ≤ n → shown_at price shown (d - n) p (drop n xs) ≡ 0
-  shown-all h = let e : d - n ≡ 0 = omega arith in ap (λ (k : ℕ). shown_at price shown k p (drop n xs)) e
-
-  module _ (x : X) (h : Here xs n x) (l : n < d) where
-    shown-at : shown_at price shown (d - n) p (drop n xs) ≡ cond (eq_z (price x) p) (shown x + shown_at price shown (d - (n + 1)) p (drop (n + 1) xs)) 0
-    shown-at =
-        let e : d - n ≡ suc (d - (n + 1)) = omega arith in
-        ap (λ (k : ℕ). shown_at price shown k p (drop n xs)) e ∙ ap (shown_at price shown (suc (d - (n + 1))) p) h.rest
-
-    pub shown-more : eq_z (price x) p ≡ true → shown_at price shown (d - n) p (drop n xs) ≡ shown x + shown_at price shown (d - (n + 1)) p (drop (n + 1) xs)
-    shown-more q = shown-at ∙ cond-true (eq_z (price x) p) (shown x + shown_at price shown (d - (n + 1)) p (drop (n + 1) xs)) 0 q
-
-    -- the price is another
-    pub shown-stop : eq_z (price x) p ≡ false → shown_at price shown (d - n) p (drop n xs) ≡ 0
-    shown-stop q = shown-at ∙ cond-false (eq_z (price x) p) (shown x + shown_at price shown (d - (n + 1)) p (drop (n + 1) xs)) 0 q

@@ -1,5 +1,6 @@
 pub mod Changes
 pub mod Entries
 pub mod Lists
+pub mod Walking
 pub mod Walks
 pub mod Sided

@@ -11,6 +11,7 @@ ghost use Rattle.queues.specs.Walks.{order_of, choice, walk};
 
 use crate::best::best_price;
 use crate::ranked::Ranked;
+use crate::walking::Along;
 use board::board::Board;
 use board::entitlement::Entitlement;
 use board::orders::numbered;
@@ -51,18 +52,7 @@ fn first_allowed<T: Ranked, L: Line<T>>(
 ) -> Option<Order>
     ensures { result ≡ walk (choice (allowed entitlement.now) T.OfOrder.number orders.now) (L.Line.entries line.now) }
 {
-    // Counted, so that the walk ends: an iterator over a line would be longer than its two uses.
-    let mut at = line.first();
-    for _n in 0..line.count() {
-        let Some(rank) = at else {
-            return None;
-        };
-        if let Some(order) = allowed_order(orders, entitlement, &rank) {
-            return Some(order);
-        }
-        at = line.next(rank);
-    }
-    None
+    Along::new(line).find_map(|entry| allowed_order(orders, entitlement, &entry))
 }
 
 /// The first by rank of the side's entitled orders; `meets` tells whether prices meet.

@@ -8,6 +8,7 @@ ghost use Rattle.queues.specs.Walks.{shown_at, displayed_by};
 
 use crate::best::best_price;
 use crate::ranked::Ranked;
+use crate::walking::Along;
 use board::board::Board;
 use board::orders::numbered;
 use line::lines::Line;
@@ -36,20 +37,11 @@ fn displayed<T: OfOrder>(orders: &[Order], entry: &T) -> u32
 fn displayed_at<T: Ranked, L: Line<T>>(orders: &[Order], line: &L, price: i32) -> u64
     ensures { result ≡ shown_at T.Ranked.price (displayed_by T.OfOrder.number orders.now) 8 price (L.Line.entries line.now) }
 {
-    let mut total = 0;
-    // Counted, as the walk in `first`.
-    let mut at = line.first();
-    for _n in 0..DEPTH {
-        let Some(rank) = at else {
-            return total;
-        };
-        if !is_at(&rank, price) {
-            return total;
-        }
-        total += u64::from(displayed(orders, &rank));
-        at = line.next(rank);
-    }
-    total
+    Along::new(line)
+        .take(DEPTH)
+        .take_while(|rank| is_at(rank, price))
+        .map(|rank| u64::from(displayed(orders, &rank)))
+        .sum()
 }
 
 /// The side's best price, and the displayed total of the first eight orders there.

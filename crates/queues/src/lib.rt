@@ -9,3 +9,4 @@ pub mod keeping;
 pub mod kinds;
 pub mod listed;
 pub mod ranked;
+mod walking;

@@ -1,66 +1,36 @@
-use Rattle.std.proofs.Common.{◌≡◌, ℤ, sym, ap, ◌∙◌, arith, w32, to_z, of_z}
-use Rattle.std.proofs.lemmas.Int.{to_z-of_z}
-use Rattle.line.specs.Order.{Order as TotalOrder}
-use Rattle.queues.specs.Walks.{shown_at, displayed_by}
-use Rattle.queues.proofs.Along.{here, nothing, onward}
-use Rattle.queues.proofs.Totals.{shown-end, shown-all, shown-more, shown-stop}
+use Rattle.std.proofs.Common.{take, ◌∙◌, rules, arith}
+use Rattle.std.specs.List.{prefix_len}
+use Rattle.std.proofs.lemmas.Iterator.{YieldsList-from_take, YieldsList-from_map}
+use Rattle.std.proofs.lemmas.Iterator.Adapters.{fits_from_length, at_most_from_yields_List}
+use Rattle.std.proofs.lemmas.Iterator.Consumers.{YieldsList-at, YieldsList-from_first, sum_by_from_yields_List}
+use Rattle.std.proofs.lemmas.Iterator.Search.{YieldsList-from_take_while}
+use Rattle.rules.specs.Base.{eq_z}
+use Rattle.queues.specs.declared.walking.Along.{Along}
+use Rattle.queues.specs.Walking.{left_from}
+use Rattle.queues.specs.Walks.{displayed_by}
+use Rattle.queues.proofs.Summed.{first_at, summed, few}
 use Rattle.queues.proofs.glance.displayed_at.Goals as goal
 
-pub loop-n-init : goal.loop-n-init
-loop-n-init g c = (omega arith, c.first-at.ensures, omega arith)
-
-pub loop-n-preserved : goal.loop-n-preserved
-loop-n-preserved g c =
-    let t : TotalOrder g.T.Entry.ahead = record { irreflexive = g.met.T.Entry.irreflexive; total = g.met.T.Entry.total; transitive = g.met.T.Entry.transitive } in
+pub sum-requires-clause-fits : goal.sum-requires-clause-fits
+sum-requires-clause-fits g c =
     let xs = g.L.Line.entries c.args.line.now in
-    let price = g.T.Ranked.price in
-    let shown = displayed_by g.T.OfOrder.number c.args.orders.now in
-    let p = to_z w32 (of_z w32 c.args.price) in
-    let n = c.loop-n._n in
-    let x = c.in-Some.rank in
-    let size = c.from-total.ensures in
-    let i = c.loop-n.invariant in
-    let h = here xs n x (sym c.in-Some.is ∙ i.1) in
-    let more = shown-more price shown 8 n p xs x h c.loop-n-test.true (sym c.is_at.ensures ∙ c.if-not-is_at.false) in (
-      omega (arith, i.0, size, c.displayed.type_inv),
-      c.next-at.ensures ∙ onward t xs (g.met.L.Line.ordered c.args.line.now) n x h,
-      omega (arith, i.2, more, size, c.displayed.ensures),
-    )
-
-pub returns-in_default : goal.returns-in_default
-returns-in_default g c =
-    let xs = g.L.Line.entries c.args.line.now in
-    let price = g.T.Ranked.price in
-    let shown = displayed_by g.T.OfOrder.number c.args.orders.now in
-    let p = to_z w32 (of_z w32 c.args.price) in
-    let n = c.loop-n._n in
-    let back : shown_at price shown 8 p xs ≡ shown_at price shown 8 c.args.price xs = ap (λ (v : ℤ). shown_at price shown 8 v xs) (to_z-of_z w32 c.args.price c.ranges.price) in
-    let i = c.loop-n.invariant in
-    let end = shown-end price shown 8 n p xs (nothing xs n (sym c.in_default.is ∙ i.1)) in
-    omega (arith, i.2, end, back)
-
-pub returns-then-not-is_at : goal.returns-then-not-is_at
-returns-then-not-is_at g c =
-    let xs = g.L.Line.entries c.args.line.now in
-    let price = g.T.Ranked.price in
-    let shown = displayed_by g.T.OfOrder.number c.args.orders.now in
-    let p = to_z w32 (of_z w32 c.args.price) in
-    let n = c.loop-n._n in
-    let back : shown_at price shown 8 p xs ≡ shown_at price shown 8 c.args.price xs = ap (λ (v : ℤ). shown_at price shown 8 v xs) (to_z-of_z w32 c.args.price c.ranges.price) in
-    let i = c.loop-n.invariant in
-    let x = c.in-Some.rank in
-    let h = here xs n x (sym c.in-Some.is ∙ i.1) in
-    let stop = shown-stop price shown 8 n p xs x h c.loop-n-test.true (sym c.is_at.ensures ∙ c.if-not-is_at.true) in
-    omega (arith, i.2, stop, back)
+    let rest = λ (s : Along g.row.T.Denot g.row.L.Denot). left_from g.T.Entry.ahead s.at (g.L.Line.entries s.line.now) in
+    let test = λ (x : g.row.T.Denot). eq_z (g.T.Ranked.price x) c.args.price in
+    let along = YieldsList-from_first (λ x. x) rest xs c.new.ensures in
+    let taken = YieldsList-from_take 8 (YieldsList-at c.take.ensures.source along) c.take.ensures.count in
+    fits_from_length _ _ 8 18446744073709551616 (at_most_from_yields_List (YieldsList-at c.map.ensures.source
+    (YieldsList-from_take_while _ test (YieldsList-at c.take_while.ensures.source taken) c.take_while.ensures.closure c.take_while.ensures.done (λ x b q k. search rules)))
+    (few 8 (prefix_len test (take 8 xs)) xs)) c.map.ensures.closure (omega arith) (λ x r q k. search rules)
 
 pub returns : goal.returns
 returns g c =
     let xs = g.L.Line.entries c.args.line.now in
-    let price = g.T.Ranked.price in
+    let rest = λ (s : Along g.row.T.Denot g.row.L.Denot). left_from g.T.Entry.ahead s.at (g.L.Line.entries s.line.now) in
     let shown = displayed_by g.T.OfOrder.number c.args.orders.now in
-    let p = to_z w32 (of_z w32 c.args.price) in
-    let n = c.loop-n._n in
-    let back : shown_at price shown 8 p xs ≡ shown_at price shown 8 c.args.price xs = ap (λ (v : ℤ). shown_at price shown 8 v xs) (to_z-of_z w32 c.args.price c.ranges.price) in
-    let i = c.loop-n.invariant in
-    let all = shown-all price shown 8 n p xs c.loop-n-test.false in
-    omega (arith, i.2, all, back)
+    let test = λ (x : g.row.T.Denot). eq_z (g.T.Ranked.price x) c.args.price in
+    let along = YieldsList-from_first (λ x. x) rest xs c.new.ensures in
+    let taken = YieldsList-from_take 8 (YieldsList-at c.take.ensures.source along) c.take.ensures.count in
+    sum_by_from_yields_List shown (first_at g.T.Ranked.price shown c.args.price 8 xs) c.map.result c.sum.result c.sum.ensures.ran
+    (YieldsList-from_map _ shown (YieldsList-at c.map.ensures.source
+    (YieldsList-from_take_while _ test (YieldsList-at c.take_while.ensures.source taken) c.take_while.ensures.closure c.take_while.ensures.done (λ x b q k. search rules)))
+    c.map.ensures.closure (λ x r q k. search rules)) ∙ summed g.T.Ranked.price shown c.args.price 8 xs
