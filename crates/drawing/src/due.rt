@@ -3,7 +3,6 @@ ghost use Rattle.std.specs.Prelude.{◌≡◌, Some};
 ghost use Rattle.rules.specs.Base.{or_else};
 ghost use Rattle.rules.specs.Board.{meet};
 ghost use Rattle.rules.specs.Draws.{rests, decided, incoming_of, passive_for, opening, pairing, removing, earlier, coming};
-ghost use Rattle.board.specs.Memory.{board_of};
 ghost use Rattle.memory.specs.Shown.{Whenever};
 ghost use Rattle.drawing.specs.Due.{meant_of};
 
@@ -39,7 +38,7 @@ pub enum Due {
 
 /// The incoming order, if it is live.
 fn incoming_order(board: &Board) -> Option<Order>
-    ensures { result ≡ incoming_of board.now.counters.incoming board.now.orders.items }
+    ensures { result ≡ incoming_of board.now.counters.incoming board.now.orders }
 {
     let number = board.counters.incoming?;
     numbered(&board.orders, number)
@@ -114,7 +113,7 @@ fn moment_due<L: BookLines>(
 
 /// The order that must go because of its type.
 fn removal_due(board: &Board) -> Option<Due>
-    ensures { meant_of result ≡ removing (board_of board.now) }
+    ensures { meant_of result ≡ removing board.now }
 {
     let (order, cause) = removals::removal_due(board)?;
     Some(Due::Removal { order, cause })

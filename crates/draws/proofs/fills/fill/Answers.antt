@@ -1,7 +1,6 @@
 use Rattle.std.proofs.Common.{◌≡◌, ◌+◌, ◌^◌, ◌<◌, refl, ◌∙◌, arith, w32, SFits, rules}
 use Rattle.std.proofs.lemmas.Int.{to_z-of_z}
 use Rattle.rules.specs.Fills.{size_of}
-use Rattle.board.specs.Memory.{board_of}
 use Rattle.draws.proofs.Boards.{same-board}
 use Rattle.draws.proofs.Filling.{between, onward, filled}
 use Rattle.draws.proofs.fills.fill.Goals as goal
@@ -9,13 +8,13 @@ use Rattle.draws.proofs.fills.fill.Goals as goal
 pub returns : goal.returns
 unfolding size_of
 returns c k m h w a i j d e =
-    let b = board_of c.args.board.now in
+    let b = c.args.board.now in
     let bid = c.args.bid.now in
     let offer = c.args.offer.now in
     let size = c.min-size.result in
     let n = c.saturating_add-number.result in
-    let b' = board_of c.settle-bid_left.new.board in
-    let b'' = board_of c.settle-offer_left.new.board in
+    let b' = c.settle-bid_left.new.board in
+    let b'' = c.settle-offer_left.new.board in
     let counted : n ≡ b.counters.fills + 1 = omega (arith, c.saturating_add-number.ensures, w.fills) in
     let room : b.counters.stamp + 1 < 2 ^ 64 = omega (arith, w.stamp) in
     let one = c.settle-bid_left.ensures k m h room a i e in

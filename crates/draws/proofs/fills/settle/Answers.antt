@@ -4,7 +4,6 @@ use Rattle.market.specs.declared.state.Completion.{Completion}
 use Rattle.rules.specs.Base.{each}
 use Rattle.rules.specs.Board.{in_session}
 use Rattle.rules.specs.Fills.{remainder, remainder_of, executed, left, stamp_after, replace, completions_after, privileges_after, drawn_from}
-use Rattle.board.specs.Memory.{board_of}
 use Rattle.draws.specs.Remainders.{meant, reserve_after}
 use Rattle.board.specs.Positions.{position_of}
 use Rattle.board.specs.Rows.{put_at}
@@ -19,12 +18,12 @@ use Rattle.draws.proofs.fills.settle.Goals as goal
 pub returns : goal.returns
 unfolding remainder_of settled_board
 returns c k m h room a i e =
-    let b = board_of c.args.board.now in
+    let b = c.args.board.now in
     let o = c.args.order.now in
     let n = o.number in
     let size = c.args.size in
     let fill = c.args.fill in
-    let os = c.args.board.now.orders.items in
+    let os = c.args.board.now.orders in
     let stamp = b.counters.stamp in
     let f = remainder_of h size o in
     let rs = each (reserve_of h) os in

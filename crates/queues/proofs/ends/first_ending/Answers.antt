@@ -1,13 +1,12 @@
 use Rattle.std.proofs.Common.{List, ap, ◌∙◌}
 use Rattle.market.specs.declared.order.Order.{Order}
-use Rattle.board.specs.Memory.{board_of}
 use Rattle.queues.specs.Walks.{ending_by}
 use Rattle.queues.proofs.Ending.{ends-first}
 use Rattle.queues.proofs.ends.first_ending.Goals as goal
 
 pub returns : goal.returns
 returns g c w =
-    let b = board_of c.args.board.now in
+    let b = c.args.board.now in
     let wished = c.args.wished in
     c.ending.ensures ∙ ap (λ (os : List Order). ending_by wished os c.first.result) c.deref.ensures.0 ∙
     ap (ending_by wished b.orders) c.first.ensures ∙

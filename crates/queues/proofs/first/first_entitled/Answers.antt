@@ -4,7 +4,6 @@ use Rattle.market.specs.declared.order.Order.{Order}
 use Rattle.rules.specs.Board.{on, best, meet}
 use Rattle.rules.specs.Entitlement.{entitled_in, entitled, first_entitled}
 use Rattle.rules.proofs.Tests.{same_true, eq-same}
-use Rattle.board.specs.Memory.{board_of}
 use Rattle.board.specs.Entitlements.{entitlement_of, allowed}
 use Rattle.board.specs.declared.entitlement.Entitlement.{Entitlement}
 use Rattle.board.proofs.Entitles.{entitles}
@@ -15,7 +14,7 @@ use Rattle.queues.proofs.first.first_entitled.Goals as goal
 pub returns : goal.returns
 unfolding first_entitled entitled
 returns g c w meets =
-    let b = board_of c.args.board.now in
+    let b = c.args.board.now in
     let s = g.T.Ranked.side in
     let number = g.T.OfOrder.number in
     let xs = g.L.Line.entries c.args.line.now in

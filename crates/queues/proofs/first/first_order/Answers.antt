@@ -1,13 +1,12 @@
 use Rattle.std.proofs.Common.{List, ap, ◌∙◌}
 use Rattle.market.specs.declared.order.Order.{Order}
-use Rattle.board.specs.Memory.{board_of}
 use Rattle.queues.specs.Walks.{order_of}
 use Rattle.queues.proofs.Walked.{head_first}
 use Rattle.queues.proofs.first.first_order.Goals as goal
 
 pub returns : goal.returns
 returns g c w =
-    let b = board_of c.args.board.now in
+    let b = c.args.board.now in
     let number = g.T.OfOrder.number in
     c.order_of.ensures ∙ ap (λ (os : List Order). order_of number os c.first.result) c.deref.ensures.0 ∙
     ap (order_of number b.orders) c.first.ensures ∙

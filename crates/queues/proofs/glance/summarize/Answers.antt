@@ -5,7 +5,6 @@ use Rattle.market.specs.declared.answer.Summary.{Summary}
 use Rattle.market.specs.declared.order.Order.{Order}
 use Rattle.rules.specs.Board.{best}
 use Rattle.rules.specs.Summaries.{summary_at, summary}
-use Rattle.board.specs.Memory.{board_of}
 use Rattle.queues.specs.Walks.{shown_at, displayed_by}
 use Rattle.queues.proofs.Totals.{summary-along}
 use Rattle.queues.proofs.glance.summarize.Goals as goal
@@ -13,14 +12,14 @@ use Rattle.queues.proofs.glance.summarize.Goals as goal
 pub returns-in_err-price : goal.returns-in_err-price
 unfolding summary
 returns-in_err-price g c w =
-    let b = board_of c.args.board.now in
+    let b = c.args.board.now in
     let s = g.T.Ranked.side in
     c.from_residual.ensures ∙ ap (summary_at b s) (sym c.in_err-price.was ∙ c.best_price.ensures b b.orders w.lists)
 
 pub returns : goal.returns
 returns g c w =
     let t : TotalOrder g.T.Entry.ahead = record { irreflexive = g.met.T.Entry.irreflexive; total = g.met.T.Entry.total; transitive = g.met.T.Entry.transitive } in
-    let b = board_of c.args.board.now in
+    let b = c.args.board.now in
     let s = g.T.Ranked.side in
     let xs = g.L.Line.entries c.args.line.now in
     let p = c.in_ok-price.price in

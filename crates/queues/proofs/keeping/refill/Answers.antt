@@ -2,20 +2,19 @@ use Rattle.std.proofs.Common.{List, [], refl, ap, ◌∙◌}
 use Rattle.line.specs.Order.{Order as TotalOrder}
 use Rattle.market.specs.declared.order.Order.{Order}
 use Rattle.rules.specs.Base.{each}
-use Rattle.board.specs.Memory.{board_of}
 use Rattle.queues.specs.Changes.{filled}
 use Rattle.queues.proofs.Kept.{filled_more, filled-all, refills}
 use Rattle.queues.proofs.keeping.refill.Goals as goal
 
 pub loop-order-init : goal.loop-order-init
 loop-order-init g c =
-    let e = g.T.Listed.listing (board_of c.args.board.now) in
+    let e = g.T.Listed.listing c.args.board.now in
     let room = g.L.Line.room c.clear.new.self in
     (refl, ap (λ (xs : List _). filled g.T.Entry.ahead room (each e c.as_slice-orders.result.now) xs) c.clear.ensures.entries)
 
 pub loop-order-preserved : goal.loop-order-preserved
 loop-order-preserved g c =
-    let e = g.T.Listed.listing (board_of c.args.board.now) in
+    let e = g.T.Listed.listing c.args.board.now in
     let inv = c.loop-order.invariant in
     let p = c.put_entry.ensures in (
       p.room ∙ inv.0,
@@ -26,7 +25,7 @@ loop-order-preserved g c =
 pub returns : goal.returns
 returns g c =
     let t : TotalOrder g.T.Entry.ahead = record { irreflexive = g.met.T.Entry.irreflexive; total = g.met.T.Entry.total; transitive = g.met.T.Entry.transitive } in
-    let b = board_of c.args.board.now in
+    let b = c.args.board.now in
     let e = g.T.Listed.listing b in
     let inv = c.loop-order.invariant in
     let os = c.as_slice-orders.result.now in
