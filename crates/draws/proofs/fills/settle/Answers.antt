@@ -4,6 +4,7 @@ use Rattle.market.specs.declared.state.Completion.{Completion}
 use Rattle.rules.specs.Base.{each}
 use Rattle.rules.specs.Board.{in_session}
 use Rattle.rules.specs.Fills.{remainder, remainder_of, executed, left, stamp_after, replace, completions_after, privileges_after, drawn_from}
+use Rattle.board.specs.Memory.{board_of}
 use Rattle.draws.specs.Remainders.{meant, reserve_after}
 use Rattle.board.specs.Positions.{position_of}
 use Rattle.board.specs.Rows.{put_at}
@@ -17,13 +18,13 @@ use Rattle.draws.proofs.fills.settle.Goals as goal
 
 pub returns : goal.returns
 unfolding remainder_of settled_board
-returns c k m h room a i e =
-    let b = c.args.board.now in
+returns c = rw (← c.board.view_is) (λ k m h room a i e.
+    let b = board_of c.board.inside in
     let o = c.args.order.now in
     let n = o.number in
     let size = c.args.size in
     let fill = c.args.fill in
-    let os = c.args.board.now.orders in
+    let os = b.orders in
     let stamp = b.counters.stamp in
     let f = remainder_of h size o in
     let rs = each (reserve_of h) os in
@@ -55,7 +56,7 @@ returns c k m h room a i e =
     let completion : Completion = record { fill = fill; number = b.counters.number } in
     record {
       board =
-          same-board orders (ap counters (c.stamp_after-board.ensures room ∙ ap (λ g. stamp_after g stamp) is)) refl
+          same-board orders (ap counters (c.stamp_after-board-inside.ensures room ∙ ap (λ g. stamp_after g stamp) is)) refl
           (c.note_completion.ensures ∙
           ap (λ g. completions_after g c.in_session-session.result o.trader o.side completion b.completions) is ∙
           ap (λ t. completions_after f t o.trader o.side completion b.completions) c.in_session-session.ensures)
@@ -63,4 +64,4 @@ returns c k m h room a i e =
       order = after;
       reserves = ap (each (reserve_of (drawn_from h o f))) orders ∙
           reserves-left h f stamp (in_session b.phase) fill size o k m os a ∙ sym reserves;
-    }
+    })
