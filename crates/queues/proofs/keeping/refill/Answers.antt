@@ -2,6 +2,7 @@ use Rattle.std.proofs.Common.{List, [], refl, ap, ◌∙◌}
 use Rattle.line.specs.Order.{Order as TotalOrder}
 use Rattle.market.specs.declared.order.Order.{Order}
 use Rattle.rules.specs.Base.{each}
+use Rattle.rules.specs.Board.{Board}
 use Rattle.queues.specs.Changes.{filled}
 use Rattle.queues.proofs.Kept.{filled_more, filled-all, refills}
 use Rattle.queues.proofs.keeping.refill.Goals as goal
@@ -34,4 +35,4 @@ returns g c =
     (inv.0 ∙ r)
     (filled-all g.T.Entry.ahead e (g.L.Line.room c.clear.new.self) os c.loop-order.order-index (g.L.Line.entries c.loop-order.line) _ c.loop-order-test.false inv.1 ∙
     ap (λ n. filled g.T.Entry.ahead n (each e os) []) r ∙
-    ap (λ (ps : List Order). filled g.T.Entry.ahead (g.L.Line.room c.args.line.now) (each e ps) []) c.as_slice-orders.ensures.value)
+    ap (λ (ps : List Order). filled g.T.Entry.ahead (g.L.Line.room c.args.line.now) (each e ps) []) (c.as_slice-orders.ensures.value ∙ ap (λ (x : Board). x.orders) c.board.view_is))
