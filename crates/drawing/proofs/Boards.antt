@@ -3,7 +3,6 @@ use Rattle.std.proofs.Common.{refl}
 use Rattle.line.specs.declared.lines.Line.{Ghosts}
 use Rattle.market.specs.Ranks.{BidRank, OfferRank}
 use Rattle.market.specs.declared.rank.EndTime.{EndTime}
-use Rattle.board.specs.declared.board.Board.{Board as Held}
 use Rattle.memory.specs.declared.memory.Memory.{Memory}
 use Rattle.memory.proofs.Showing.{Untouched}
 
@@ -11,6 +10,6 @@ abbrev pub with_board : {L B O E : Type 0} → Memory L B O E → Held → Memor
 with_board m held =
     record { settings = m.settings; board = held; reserves = m.reserves; bids = m.bids; offers = m.offers; ends = m.ends }
 
-pub lines-alone : {L B O E : Type 0} (bl : Ghosts B BidRank) (ol : Ghosts O OfferRank) (el : Ghosts E EndTime) (m : Memory L B O E) (held : Held) →
+pub lines-alone : {L B O E : Type 0} (bl : Ghosts B BidRank) (ol : Ghosts O OfferRank) (el : Ghosts E EndTime) (m : Memory L B O E) (held : Board) →
     Untouched bl ol el m (with_board m held)
 lines-alone bl ol el m held = record { settings = refl; bids = refl; offers = refl; ends = refl }

@@ -24,7 +24,6 @@ use Rattle.rules.proofs.Rows.{ascends-unique, ascends-replace, replace-in}
 use Rattle.rules.proofs.Tests.{same_true}
 use Rattle.invariants.specs.Sound.{Sound}
 use Rattle.board.specs.Memory.{Reserved}
-use Rattle.board.specs.declared.board.Board.{Board as Held}
 use Rattle.draws.specs.Settled.{Fills}
 use Rattle.draws.specs.declared.fills.Filled.{Filled}
 use Rattle.memory.specs.declared.memory.Memory.{Memory}
@@ -181,7 +180,7 @@ module _ {L B O E : Type 0} (bl : Ghosts B BidRank) (ol : Ghosts O OfferRank) (e
           opening =
               opening-relisted bl ol el m₂ m₃ old' new' r₂ ∙ opening-relisted bl ol el m₁ m₂ old new r₁ ∙
               opening-alone bl ol el m m₁ u.settings u.bids u.offers u.ends ∙ w.opening;
-          board = ap (λ (v : Held). v) r₂.same.board ∙ ap (λ (v : Held). v) r₁.same.board ∙ t.board;
+          board = r₂.same.board ∙ r₁.same.board ∙ t.board;
           reserves = subst (λ (v : Board). Reserved (drawn_from (drawn_from S.hidden bid f) offer g) v.orders m₃.reserves.items) t.board
               (t.reserves ∙ sym (ap (λ v. v.items) (r₂.same.reserves ∙ r₁.same.reserves)));
           queued = pair-queued m m₁ m₂ m₃ b bid offer size f g n old new old' new' up x.0 y.0 ne u

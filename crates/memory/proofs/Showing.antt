@@ -16,7 +16,6 @@ use Rattle.board.specs.EndTimes.{end_time}
 use Rattle.queues.specs.Lists.{Lists}
 use Rattle.queues.specs.Entries.{bid_entry, offer_entry}
 use Rattle.board.specs.Memory.{Reserved}
-use Rattle.board.specs.declared.board.Board.{Board as Held}
 use Rattle.memory.specs.declared.memory.Memory.{Memory}
 use Rattle.memory.specs.declared.entries.Entries.{Entries}
 use Rattle.memory.specs.Entries.{entries_of, afterwards}
@@ -61,7 +60,7 @@ module _ {L B O E : Type 0} (bl : Ghosts B BidRank) (ol : Ghosts O OfferRank) (e
       let made' = subst (λ (x : Entries). Relisted bl ol el m₁ m' (entries_of S.board o) x) f (subst (λ (x : Entries). Relisted bl ol el m₁ m' x new) e made) in
       record {
         opening = opening-relisted bl ol el m₁ m' old new made ∙ opens m m₁ u ∙ w.opening;
-        board = ap (λ (x : Held). x) made.same.board ∙ b;
+        board = made.same.board ∙ b;
         reserves = subst (λ x. Reserved S'.hidden S'.board.orders x.items) (sym made.same.reserves) res;
         queued = subst (λ (xs : List Order). Queued bl ol el m' xs S'.board) (sym os)
             (requeued bl ol el m₁ m' S.board S'.board S.board.orders o r n up here keeps alike others made'
@@ -80,7 +79,7 @@ module _ {L B O E : Type 0} (bl : Ghosts B BidRank) (ol : Ghosts O OfferRank) (e
       let is = opens m m₁ u ∙ w.opening in
       record {
         opening = opening-enlisted bl ol el m₁ m' new made ∙ is;
-        board = ap (λ (x : Held). x) made.same.board ∙ b;
+        board = made.same.board ∙ b;
         reserves = subst (λ x. Reserved S'.hidden S'.board.orders x.items) (sym made.same.reserves) res;
         queued = subst (λ (xs : List Order). Queued bl ol el m' xs S'.board) (sym os)
             (queued-more bl ol el m₁ m' S'.board S.board.orders o n up above
@@ -118,7 +117,7 @@ module _ {L B O E : Type 0} (bl : Ghosts B BidRank) (ol : Ghosts O OfferRank) (e
       let ends = (carry m m₁ S.board.orders S.board u w.queued).ends in
       record {
         opening = opening-reranked bl ol el m₁ m' made ∙ is;
-        board = ap (λ (v : Held). v) made.same.board ∙ b;
+        board = made.same.board ∙ b;
         reserves = subst (λ v. Reserved S'.hidden S'.board.orders v.items) (sym made.same.reserves) res;
         queued = record {
           bids = subst (λ (v : Board). Queues-bids m' v) b bids;
