@@ -3,10 +3,11 @@ use Rattle.std.proofs.Common.{refl}
 use Rattle.line.specs.declared.lines.Line.{Ghosts}
 use Rattle.market.specs.Ranks.{BidRank, OfferRank}
 use Rattle.market.specs.declared.rank.EndTime.{EndTime}
+use Rattle.rules.specs.Board.{Board}
 use Rattle.memory.specs.declared.memory.Memory.{Memory}
 use Rattle.memory.proofs.Showing.{Untouched}
 
-abbrev pub with_board : {L B O E : Type 0} → Memory L B O E → Held → Memory L B O E
+abbrev pub with_board : {L B O E : Type 0} → Memory L B O E → Board → Memory L B O E
 with_board m held =
     record { settings = m.settings; board = held; reserves = m.reserves; bids = m.bids; offers = m.offers; ends = m.ends }
 
