@@ -131,12 +131,14 @@ module _ {L B O E : Type 0} (bl : Ghosts B BidRank) (ol : Ghosts O OfferRank) (e
       f ∙ ap (λ (v : Side). first (on (other v)) (ahead m.board) m.board.orders) (sym e) ∙
       ap (λ (b : Board). passive_for b (Some o)) w.board
 
-  pub comes : (m : Memory L B O E) (k : Opening) (S : State) (t : Option ℕ) (x : Option (Order × ℕ)) → Shows bl ol el m k S →
-      t ≡ phase_end m.board.phase m.settings m.board.session → x ≡ expiring m.board.clock.wished m.board.orders →
-      earlier m.board.clock.wished t x ≡ coming k S.board
+  pub comes : (m : Memory L B O E) (k : Opening) (S : State) (u : ℕ) (t : Option ℕ) (x : Option (Order × ℕ)) → Shows bl ol el m k S →
+      u ≡ m.board.clock.wished →
+      t ≡ phase_end m.board.phase m.settings m.board.session → x ≡ expiring u m.board.orders →
+      earlier u t x ≡ coming k S.board
   unfolding coming
-  comes m k S t x w e f =
+  comes m k S u t x w h e f =
       let wished = m.board.clock.wished in
+      ap (λ (v : ℕ). earlier v t x) h ∙
       ap (λ (v : Option ℕ). earlier wished v x) e ∙
-      ap (earlier wished (phase_end m.board.phase m.settings m.board.session)) f ∙
+      ap (earlier wished (phase_end m.board.phase m.settings m.board.session)) (f ∙ ap (λ (v : ℕ). expiring v m.board.orders) h) ∙
       ap (λ (o : Opening). coming o m.board) w.opening ∙ ap (coming k) w.board

@@ -55,13 +55,14 @@ module _ {L B O E : Type 0} (bl : Ghosts B BidRank) (ol : Ghosts O OfferRank) (e
       (e ∙ ap (λ (v : Board). entries_of v o) w.board) f made
 
   -- an order that is removed leaves at the time that the book has reached
-  pub removed-now : (m m' : Memory L B O E) (k : Opening) (S : State) (o : Order) (c : Cause) (r : Record) → Sound k S → Shows bl ol el m k S →
-      decided k S.board ≡ removes o c → Leaves bl ol el m m' o m.board.clock.time →
-      r ≡ Removal m.board.clock.time o.number o.displayed c →
+  pub removed-now : (m m' : Memory L B O E) (k : Opening) (S : State) (o : Order) (c : Cause) (t : ℕ) (r : Record) → Sound k S → Shows bl ol el m k S →
+      decided k S.board ≡ removes o c → t ≡ m.board.clock.time → Leaves bl ol el m m' o t →
+      r ≡ Removal t o.number o.displayed c →
       Shows bl ol el m' k (after S (removes o c)) × (r ≡ record_of S.hidden S.board (removes o c))
   unfolding record_of board_after hidden_after
-  removed-now m m' k S o c r sound w d leaves e = (
-    subst (λ (b : Board). Shows bl ol el m' k (record { board = removed_board S.board b.clock.time o; hidden = S.hidden })) w.board
-        (leaves k S sound w (removes-live k S.board o c d)),
-    e ∙ ap (λ (b : Board). Removal b.clock.time o.number o.displayed c) w.board,
-  )
+  removed-now m m' k S o c t r sound w d is leaves e =
+      let now : t ≡ S.board.clock.time = is ∙ ap (λ (b : Board). b.clock.time) w.board in (
+        subst (λ (x : ℕ). Shows bl ol el m' k (record { board = removed_board S.board x o; hidden = S.hidden })) now
+            (leaves k S sound w (removes-live k S.board o c d)),
+        e ∙ ap (λ (x : ℕ). Removal x o.number o.displayed c) now,
+      )

@@ -105,9 +105,10 @@ fn moment_due<L: BookLines>(
 ) -> Option<Due>
     ensures { Whenever L.Bids.Line L.Offers.Line L.Ends.Line memory.now (λ k S. meant_of result ≡ coming k S.board) }
 {
-    let wished = memory.board.clock.wished;
-    let turn = phase_end(&memory.board, &memory.settings);
-    let ending = first_ending(&memory.board, &memory.ends, wished);
+    let board = &memory.board;
+    let wished = board.clock.wished;
+    let turn = phase_end(board, &memory.settings);
+    let ending = first_ending(board, &memory.ends, wished);
     earlier(wished, turn, ending)
 }
 
