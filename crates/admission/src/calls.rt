@@ -2,7 +2,6 @@
 ghost use Rattle.std.specs.Prelude.{◌≡◌};
 ghost use Rattle.rules.specs.Board.{Opening};
 ghost use Rattle.rules.specs.Refusing.{is_size, line_full, owned, entry_refusal, change_refusal, cancel_refusal, tick_refusal};
-ghost use Rattle.board.specs.Memory.{board_of};
 ghost use Rattle.admission.specs.Checks.{Answers, Finds};
 
 use crate::checks::*;
@@ -21,7 +20,7 @@ pub fn check_entry(
     order: &OrderEntry,
     full: bool,
 ) -> Result<(), Refusal>
-    ensures { (k : Opening) → k.settings ≡ settings.now → full ≡ line_full k (board_of board.now).orders order.now.side order.now.end → Answers (entry_refusal k (board_of board.now) order.now (is_size k order.now.reserve)) result }
+    ensures { (k : Opening) → k.settings ≡ settings.now → full ≡ line_full k board.now.orders order.now.side order.now.end → Answers (entry_refusal k board.now order.now (is_size k order.now.reserve)) result }
 {
     check_quiet(board)?;
     check_trader(order.trader)?;
@@ -46,7 +45,7 @@ pub fn check_change(
     settings: &Settings,
     change: &OrderChange,
 ) -> Result<Order, Refusal>
-    ensures { (k : Opening) → k.settings ≡ settings.now → Finds (change_refusal k (board_of board.now) change.now (is_size k change.now.reserve)) (owned (board_of board.now) change.now.trader change.now.number) result }
+    ensures { (k : Opening) → k.settings ≡ settings.now → Finds (change_refusal k board.now change.now (is_size k change.now.reserve)) (owned board.now change.now.trader change.now.number) result }
 {
     check_quiet(board)?;
     check_trader(change.trader)?;
@@ -67,7 +66,7 @@ pub fn check_change(
 
 /// A cancel, with the order that it names.
 pub fn check_cancel(board: &Board, cancel: &OrderCancel) -> Result<Order, Refusal>
-    ensures { Finds (cancel_refusal (board_of board.now) cancel.now.trader cancel.now.number) (owned (board_of board.now) cancel.now.trader cancel.now.number) result }
+    ensures { Finds (cancel_refusal board.now cancel.now.trader cancel.now.number) (owned board.now cancel.now.trader cancel.now.number) result }
 {
     check_quiet(board)?;
     check_trader(cancel.trader)?;
@@ -79,7 +78,7 @@ pub fn check_cancel(board: &Board, cancel: &OrderCancel) -> Result<Order, Refusa
 
 /// A tick, which names the time to be reached.
 pub fn check_tick(board: &Board, time: u64) -> Result<(), Refusal>
-    ensures { Answers (tick_refusal (board_of board.now) time) result }
+    ensures { Answers (tick_refusal board.now time) result }
 {
     check_quiet(board)?;
     check_time(board, time)?;

@@ -106,7 +106,7 @@ fn is_own_met_among(orders: &[Order], seat: Seat, price: i32) -> bool
 
 /// A trader's order may not meet one of his own.
 pub fn check_own(board: &Board, seat: Seat, price: i32) -> Result<(), BookFault>
-    ensures { result ≡ refused_if (own_meets board.now.orders.items seat.trader seat.side price) Own }
+    ensures { result ≡ refused_if (own_meets board.now.orders seat.trader seat.side price) Own }
 {
     refused_if(is_own_met_among(&board.orders, seat, price), BookFault::Own)
 }
@@ -120,7 +120,7 @@ pub fn check_writes(board: &Board) -> Result<(), BookFault>
 
 /// One more order must not be too many.
 pub fn check_orders(board: &Board) -> Result<(), BookFault>
-    ensures { result ≡ refused_if (nat_le most_orders (length board.now.orders.items)) Orders }
+    ensures { result ≡ refused_if (nat_le most_orders (length board.now.orders)) Orders }
 {
     refused_if(board.orders.len() >= MOST_ORDERS, BookFault::Orders)
 }

@@ -3,10 +3,10 @@ use Rattle.std.specs.Prelude.{◌≡◌, ℕ, ◌+◌, ◌^◌, ◌<◌, List}
 use Rattle.market.specs.declared.order.Order.{Order}
 use Rattle.rules.specs.Base.{each}
 use Rattle.rules.specs.Board.{Board as Rules}
-use Rattle.board.specs.declared.board.Board.{Board}
+use Rattle.board.specs.declared.board.Board.TheInside.{Inside}
 
 -- the board of the rules that it shows
-abbrev pub board_of : Board → Rules
+abbrev pub board_of : Inside → Rules
 board_of m =
     record {
       orders = m.orders.items;

@@ -1,7 +1,6 @@
 //! Which orders may trade.
 ghost use Rattle.std.specs.Prelude.{◌≡◌};
 ghost use Rattle.rules.specs.Entitlement.{is_at, aggressively};
-ghost use Rattle.board.specs.Memory.{board_of};
 ghost use Rattle.board.specs.Entitlements.{entitlement_of, allowed};
 
 use crate::board::Board;
@@ -31,7 +30,7 @@ fn is_aggressive(session: &Session, order: &Order) -> bool
 impl Entitlement {
     /// What the board says, with whether prices meet and the best price of the side that is asked about.
     pub fn new(board: &Board, meets: bool, best: Option<i32>) -> Entitlement
-        ensures { result ≡ entitlement_of (board_of board.now) meets best }
+        ensures { result ≡ entitlement_of board.now meets best }
     {
         Entitlement {
             phase: board.phase,

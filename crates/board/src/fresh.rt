@@ -1,7 +1,6 @@
 //! A board before any call.
 ghost use Rattle.std.specs.Prelude.{◌≡◌};
 ghost use Rattle.rules.specs.Calls.{opened};
-ghost use Rattle.board.specs.Memory.{board_of};
 
 use crate::board::Board;
 use crate::privileges::Privileges;
@@ -12,7 +11,7 @@ use market::state::{Clock, Counters, Phase, Session};
 impl Board {
     /// A quiet board at time 0, Open and without orders.
     pub fn new() -> Board
-        ensures { board_of result ≡ opened.board }
+        ensures { result ≡ opened.board }
     {
         Board {
             orders: ArrayVec::new(),

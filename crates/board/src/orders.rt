@@ -3,7 +3,6 @@ ghost use Rattle.std.specs.Prelude.{◌≡◌};
 ghost use Rattle.rules.specs.Board.{ordered};
 ghost use Rattle.rules.specs.Entitlement.{prior_left};
 ghost use Rattle.rules.specs.Refusing.{owned};
-ghost use Rattle.board.specs.Memory.{board_of};
 ghost use Rattle.board.specs.Positions.{position_of};
 
 use crate::board::Board;
@@ -33,7 +32,7 @@ pub fn is_prior_left(orders: &[Order]) -> bool
 impl Board {
     /// The trader's live order with that number.
     pub fn owned_by(&self, trader: u8, number: u32) -> Option<Order>
-        ensures { result ≡ owned (board_of self.now) trader number }
+        ensures { result ≡ owned self.now trader number }
     {
         self.orders
             .iter()

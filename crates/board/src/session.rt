@@ -2,7 +2,6 @@
 ghost use Rattle.std.specs.Prelude.{◌≡◌, ◌&&◌};
 ghost use Rattle.rules.specs.Board.{better, in_session};
 ghost use Rattle.rules.specs.Refusing.{entry_price};
-ghost use Rattle.board.specs.Memory.{board_of};
 
 use crate::board::Board;
 use crate::phases::in_session;
@@ -19,7 +18,7 @@ impl Board {
 
     /// The price of an entry: in a session, one that is better than its price is re-priced to that.
     pub fn entry_price(&self, side: Side, price: i32) -> i32
-        ensures { result ≡ entry_price (board_of self.now) side price }
+        ensures { result ≡ entry_price self.now side price }
     {
         if self.beats_session(side, price) {
             self.session.price

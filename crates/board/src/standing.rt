@@ -2,7 +2,6 @@
 ghost use Rattle.std.specs.Prelude.{◌≡◌};
 ghost use Rattle.rules.specs.Base.{names};
 ghost use Rattle.rules.specs.Standings.{plain, privileged, favoured, last_on, standing, rank_of};
-ghost use Rattle.board.specs.Memory.{board_of};
 ghost use Rattle.board.specs.EndTimes.{end_time};
 
 use crate::board::Board;
@@ -57,7 +56,7 @@ fn is_last(session: &Session, side: Side, trader: u8) -> bool
 
 /// Where the order stands among those at its price.
 pub fn standing_of(board: &Board, order: &Order) -> Standing
-    ensures { result ≡ standing (board_of board.now) order.now }
+    ensures { result ≡ standing board.now order.now }
 {
     match board.phase {
         Phase::Open | Phase::Timed | Phase::Rolling => plain(order),
@@ -70,7 +69,7 @@ pub fn standing_of(board: &Board, order: &Order) -> Standing
 
 /// The rank of an order on its side.
 pub fn rank_of<P: SidePrice>(board: &Board, order: &Order) -> Rank<P>
-    ensures { result ≡ rank_of (P.of order.now.price) (board_of board.now) order.now }
+    ensures { result ≡ rank_of (P.of order.now.price) board.now order.now }
 {
     Rank {
         price: P::of(order.price),

@@ -1,5 +1,4 @@
 //! An order leaves.
-ghost use Rattle.board.specs.Memory.{board_of};
 ghost use Rattle.board.specs.Struck.{Strikes};
 
 use crate::board::Board;
@@ -14,7 +13,7 @@ impl Board {
 
     /// The order leaves the board, and its reserve with it. A Priority 1 that it carried is free again.
     pub fn strike(&mut self, reserves: &mut ArrayVec<u32, 128>, order: &Order)
-        ensures { Strikes order.now (board_of self.old) (board_of self.new) reserves.old.items reserves.new.items }
+        ensures { Strikes order.now self.old self.new reserves.old.items reserves.new.items }
     {
         let row = position(&self.orders, order.number);
         put(&mut self.orders, row, None);

@@ -16,7 +16,7 @@ use Rattle.rules.specs.Refusing.{owned, cancel_refusal}
 use Rattle.rules.specs.Calls.{cancelled_board, cancelled_state, step}
 use Rattle.invariants.specs.Sound.{Sound}
 use Rattle.invariants.proofs.Passes.{owned_in}
-use Rattle.board.specs.Memory.{board_of, Reserved}
+use Rattle.board.specs.Memory.{Reserved}
 use Rattle.effects.specs.Effects.{Cancels}
 use Rattle.memory.specs.declared.memory.Memory.{Memory}
 use Rattle.memory.specs.declared.entries.Entries.{Entries}
@@ -29,7 +29,7 @@ use Rattle.calls.proofs.Replies.{broken, Replies, refused, accepted}
 
 module _ {L B O E : Type 0} (bl : Ghosts B BidRank) (ol : Ghosts O OfferRank) (el : Ghosts E EndTime) where
   pub cancel-refused : (m : Memory L B O E) (k : Opening) (S : State) (c : OrderCancel) (r : Result (Unit {0}) Refusal) (x : Refusal) →
-      IsErrAnd r (λ y. y ≡ x) → cancel_refusal (board_of m.board) c.trader c.number ≡ Some x → Shows bl ol el m k S →
+      IsErrAnd r (λ y. y ≡ x) → cancel_refusal m.board c.trader c.number ≡ Some x → Shows bl ol el m k S →
       Replies bl ol el m k (plain_answer r) (step k S (Cancel c))
   unfolding step
   cancel-refused m k S c r x h e w =
@@ -39,16 +39,16 @@ module _ {L B O E : Type 0} (bl : Ghosts B BidRank) (ol : Ghosts O OfferRank) (e
   -- the board and the reserves let the order go, then the lines
   cancelled : (m m₁ m' : Memory L B O E) (k : Opening) (S : State) (o : Order) (old new : Entries) → Sound k S → Shows bl ol el m k S →
       In o S.board.orders → Untouched bl ol el m m₁ →
-      Cancels o (board_of m.board) (board_of m₁.board) m.reserves.items m₁.reserves.items →
-      old ≡ entries_of (board_of m.board) o → new ≡ no_entries → Relisted bl ol el m₁ m' old new →
+      Cancels o m.board m₁.board m.reserves.items m₁.reserves.items →
+      old ≡ entries_of m.board o → new ≡ no_entries → Relisted bl ol el m₁ m' old new →
       Shows bl ol el m' k (cancelled_state S (Some o))
   unfolding cancelled_board standing
   cancelled m m₁ m' k S o old new sound w here u done e f made =
       let b = S.board in
       let n = b.counters.number in
       let up = sound.row.rising in
-      let did = subst (λ (v : Board). Cancels o v (board_of m₁.board) m.reserves.items m₁.reserves.items) w.board done in
-      let is : board_of m₁.board ≡ cancelled_board b o = did.board 1 n up in
+      let did = subst (λ (v : Board). Cancels o v m₁.board m.reserves.items m₁.reserves.items) w.board done in
+      let is : m₁.board ≡ cancelled_board b o = did.board 1 n up in
       shows-replaced bl ol el m m₁ m' k S (cancelled_state S (Some o)) o None old new n up w here tt tt refl
       (λ p i d. standing-unseen o.number (freed o.number) o.trader o.side b.phase b.session.buyer b.session.seller b.privileges p
       (freed-unseen o.number) d)
@@ -56,10 +56,10 @@ module _ {L B O E : Type 0} (bl : Ghosts B BidRank) (ol : Ghosts O OfferRank) (e
       (e ∙ ap (λ (v : Board). entries_of v o) w.board) f made
 
   pub cancel-done : (m m₁ m' : Memory L B O E) (k : Opening) (S : State) (c : OrderCancel) (o : Order) (old new : Entries) → Sound k S →
-      (cancel_refusal (board_of m.board) c.trader c.number ≡ None) × (owned (board_of m.board) c.trader c.number ≡ Some o) →
+      (cancel_refusal m.board c.trader c.number ≡ None) × (owned m.board c.trader c.number ≡ Some o) →
       Shows bl ol el m k S → Untouched bl ol el m m₁ →
-      Cancels o (board_of m.board) (board_of m₁.board) m.reserves.items m₁.reserves.items →
-      old ≡ entries_of (board_of m.board) o → new ≡ no_entries → Relisted bl ol el m₁ m' old new →
+      Cancels o m.board m₁.board m.reserves.items m₁.reserves.items →
+      old ≡ entries_of m.board o → new ≡ no_entries → Relisted bl ol el m₁ m' old new →
       Replies bl ol el m' k (Ok Done) (step k S (Cancel c))
   unfolding step
   cancel-done m m₁ m' k S c o old new sound h w u done e f made =

@@ -20,7 +20,7 @@ use Rattle.rules.specs.Refusing.{is_size, owned, change_refusal}
 use Rattle.rules.specs.Calls.{takes_stamp, changed, lost_at, changed_board, changed_state, step}
 use Rattle.invariants.specs.Sound.{Sound}
 use Rattle.invariants.proofs.Passes.{owned_in}
-use Rattle.board.specs.Memory.{board_of, Reserved}
+use Rattle.board.specs.Memory.{Reserved}
 use Rattle.effects.specs.Effects.{Changes}
 use Rattle.memory.specs.declared.memory.Memory.{Memory}
 use Rattle.memory.specs.declared.entries.Entries.{Entries}
@@ -47,12 +47,12 @@ Told s b c q = (k : Opening) → k.settings ≡ s → change_refusal k b c (is_s
 
 module _ {L B O E : Type 0} (bl : Ghosts B BidRank) (ol : Ghosts O OfferRank) (el : Ghosts E EndTime) where
   told_here : (m : Memory L B O E) (k : Opening) (S : State) (c : OrderChange) (q : Option Refusal) → Shows bl ol el m k S →
-      Told m.settings (board_of m.board) c q → change_refusal k S.board c (is_size k c.reserve) ≡ q
+      Told m.settings m.board c q → change_refusal k S.board c (is_size k c.reserve) ≡ q
   told_here m k S c q w told =
       subst (λ (v : Board). Told m.settings v c q) w.board told k (sym (ap (λ (x : Opening). x.settings) w.opening))
 
   pub change-refused : (m : Memory L B O E) (k : Opening) (S : State) (c : OrderChange) (r : Result (Unit {0}) Refusal) (x : Refusal) →
-      IsErrAnd r (λ y. y ≡ x) → Told m.settings (board_of m.board) c (Some x) → Shows bl ol el m k S →
+      IsErrAnd r (λ y. y ≡ x) → Told m.settings m.board c (Some x) → Shows bl ol el m k S →
       Replies bl ol el m k (plain_answer r) (step k S (Change c))
   unfolding step
   change-refused m k S c r x h told w =
@@ -62,16 +62,16 @@ module _ {L B O E : Type 0} (bl : Ghosts B BidRank) (ol : Ghosts O OfferRank) (e
   -- the board and the reserves are written anew, then the lines
   changed-shown : (m m₁ m' : Memory L B O E) (k : Opening) (S : State) (c : OrderChange) (o o' : Order) (old new : Entries) → Sound k S →
       Shows bl ol el m k S → In o S.board.orders → Untouched bl ol el m m₁ →
-      Changes c o o' (board_of m.board) (board_of m₁.board) m.reserves.items m₁.reserves.items →
-      old ≡ entries_of (board_of m.board) o → new ≡ entries_of (board_of m₁.board) o' → Relisted bl ol el m₁ m' old new →
+      Changes c o o' m.board m₁.board m.reserves.items m₁.reserves.items →
+      old ≡ entries_of m.board o → new ≡ entries_of m₁.board o' → Relisted bl ol el m₁ m' old new →
       Shows bl ol el m' k (changed_state S c (Some o))
   unfolding changed_board changed
   changed-shown m m₁ m' k S c o o' old new sound w here u done e f made =
       let b = S.board in
       let n = b.counters.number in
       let up = sound.row.rising in
-      let did = subst (λ (v : Board). Changes c o o' v (board_of m₁.board) m.reserves.items m₁.reserves.items) w.board done in
-      let is : board_of m₁.board ≡ changed_board b c o = did.board 1 n (bounded k S sound) up in
+      let did = subst (λ (v : Board). Changes c o o' v m₁.board m.reserves.items m₁.reserves.items) w.board done in
+      let is : m₁.board ≡ changed_board b c o = did.board 1 n (bounded k S sound) up in
       shows-replaced bl ol el m m₁ m' k S (changed_state S c (Some o)) o (Some (changed c (takes_stamp c o) b.counters.stamp o)) old new n up w here refl
       (refl, refl) refl (λ p i d. other-stands b c o p d) u is
       (subst (λ (v : Board). Reserved (write o.number c.reserve S.hidden) v.orders m₁.reserves.items) is
@@ -81,10 +81,10 @@ module _ {L B O E : Type 0} (bl : Ghosts B BidRank) (ol : Ghosts O OfferRank) (e
 
   pub change-done : (m m₁ m' : Memory L B O E) (k : Opening) (S : State) (c : OrderChange) (o o' : Order) (old new : Entries) → Sound k S →
       ((j : Opening) → j.settings ≡ m.settings →
-      (change_refusal j (board_of m.board) c (is_size j c.reserve) ≡ None) × (owned (board_of m.board) c.trader c.number ≡ Some o)) →
+      (change_refusal j m.board c (is_size j c.reserve) ≡ None) × (owned m.board c.trader c.number ≡ Some o)) →
       Shows bl ol el m k S → Untouched bl ol el m m₁ →
-      Changes c o o' (board_of m.board) (board_of m₁.board) m.reserves.items m₁.reserves.items →
-      old ≡ entries_of (board_of m.board) o → new ≡ entries_of (board_of m₁.board) o' → Relisted bl ol el m₁ m' old new →
+      Changes c o o' m.board m₁.board m.reserves.items m₁.reserves.items →
+      old ≡ entries_of m.board o → new ≡ entries_of m₁.board o' → Relisted bl ol el m₁ m' old new →
       Replies bl ol el m' k (Ok Done) (step k S (Change c))
   unfolding step
   change-done m m₁ m' k S c o o' old new sound h w u done e f made =

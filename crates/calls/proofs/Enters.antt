@@ -25,7 +25,7 @@ use Rattle.rules.proofs.Rows.{ascends-in}
 use Rattle.rules.proofs.Tests.{same_true}
 use Rattle.invariants.specs.Sound.{Sound}
 use Rattle.invariants.proofs.Passes.{EntryPasses, entry-passes}
-use Rattle.board.specs.Memory.{board_of, Reserved}
+use Rattle.board.specs.Memory.{Reserved}
 use Rattle.admission.specs.Checks.{refused_if}
 use Rattle.effects.specs.Effects.{Enters}
 use Rattle.admission.proofs.Refused.{passed, failed}
@@ -62,7 +62,7 @@ Refusal-is k S e q = entry_refusal k S.board e (is_size k e.reserve) ≡ q
 
 module _ {L B O E : Type 0} (bl : Ghosts B BidRank) (ol : Ghosts O OfferRank) (el : Ghosts E EndTime) where
   refusal_is : (m : Memory L B O E) (k : Opening) (S : State) (e : OrderEntry) (q : Option Refusal) (full : Bool) → Shows bl ol el m k S →
-      Screens m.settings (board_of m.board) e q → line_full k S.board.orders e.side e.end ≡ full →
+      Screens m.settings m.board e q → line_full k S.board.orders e.side e.end ≡ full →
       Refusal-is k S e (or_next q (some_if full (Line Full) None))
   refusal_is m k S e q full w screens l =
       screened k S.board m.settings e q full (sym (ap (λ (x : Opening). x.settings) w.opening))
@@ -76,18 +76,18 @@ module _ {L B O E : Type 0} (bl : Ghosts B BidRank) (ol : Ghosts O OfferRank) (e
 
   -- by the board
   pub entry-refused : (m : Memory L B O E) (k : Opening) (S : State) (e : OrderEntry) (r : Result ℕ Refusal) (x : Refusal) → IsErrAnd r (λ y. y ≡ x) →
-      Screens m.settings (board_of m.board) e (Some x) → Shows bl ol el m k S → Replies bl ol el m k (entry_answer r) (step k S (Entry e))
+      Screens m.settings m.board e (Some x) → Shows bl ol el m k S → Replies bl ol el m k (entry_answer r) (step k S (Entry e))
   entry-refused m k S e r x h screens w = turned_down m k S e r x h (refusal_is m k S e (Some x) _ w screens refl) w
 
   line_refused : (m : Memory L B O E) (k : Opening) (S : State) (e : OrderEntry) (r : Result ℕ Refusal) (f : LineFault) → IsErrAnd r (λ y. y ≡ Line f) →
-      Screens m.settings (board_of m.board) e None → line_full k S.board.orders e.side e.end ≡ true → f ≡ Full →
+      Screens m.settings m.board e None → line_full k S.board.orders e.side e.end ≡ true → f ≡ Full →
       Shows bl ol el m k S → Replies bl ol el m k (entry_answer r) (step k S (Entry e))
   line_refused m k S e r f h screens l is w =
       turned_down m k S e r (Line f) h (refusal_is m k S e None true w screens l ∙ ap (λ (x : LineFault). Some (Line x)) (sym is)) w
 
   -- by the side's line
   pub side-refused : (m : Memory L B O E) (k : Opening) (S : State) (e : OrderEntry) (r : Result ℕ Refusal) (f : LineFault) → IsErrAnd r (λ y. y ≡ Line f) →
-      Screens m.settings (board_of m.board) e None →
+      Screens m.settings m.board e None →
       Err f ≡ refused_if (leb (room_for k e.side) (count (on e.side) S.board.orders)) Full →
       Shows bl ol el m k S → Replies bl ol el m k (entry_answer r) (step k S (Entry e))
   unfolding line_full
@@ -96,7 +96,7 @@ module _ {L B O E : Type 0} (bl : Ghosts B BidRank) (ol : Ghosts O OfferRank) (e
 
   -- by the end line
   pub end_refused : (m : Memory L B O E) (k : Opening) (S : State) (e : OrderEntry) (r : Result ℕ Refusal) (f : LineFault) → IsErrAnd r (λ y. y ≡ Line f) →
-      Screens m.settings (board_of m.board) e None →
+      Screens m.settings m.board e None →
       Err f ≡ refused_if (is_some e.end && leb k.ends (count ending S.board.orders)) Full →
       Shows bl ol el m k S → Replies bl ol el m k (entry_answer r) (step k S (Entry e))
   unfolding line_full
@@ -106,15 +106,15 @@ module _ {L B O E : Type 0} (bl : Ghosts B BidRank) (ol : Ghosts O OfferRank) (e
   -- the board and the reserves take the order, then the lines
   entered-shown : (m m₁ m' : Memory L B O E) (k : Opening) (S : State) (e : OrderEntry) (o : Order) (new : Entries) → Sound k S → Shows bl ol el m k S →
       EntryPasses k S.board e → Untouched bl ol el m m₁ →
-      Enters e o (board_of m.board) (board_of m₁.board) m.reserves.items m₁.reserves.items →
-      new ≡ entries_of (board_of m₁.board) o → Enlisted bl ol el m₁ m' new → Shows bl ol el m' k (entered_state S e)
+      Enters e o m.board m₁.board m.reserves.items m₁.reserves.items →
+      new ≡ entries_of m₁.board o → Enlisted bl ol el m₁ m' new → Shows bl ol el m' k (entered_state S e)
   unfolding entered_board entered
   entered-shown m m₁ m' k S e o new sound w passes u done f made =
       let b = S.board in
       let n = b.counters.number in
       let up = sound.row.rising in
-      let did = subst (λ (v : Board). Enters e o v (board_of m₁.board) m.reserves.items m₁.reserves.items) w.board done in
-      let is : board_of m₁.board ≡ entered_board b e = did.board (bounded k S sound) passes.few in
+      let did = subst (λ (v : Board). Enters e o v m₁.board m.reserves.items m₁.reserves.items) w.board done in
+      let is : m₁.board ≡ entered_board b e = did.board (bounded k S sound) passes.few in
       let self : n ≤ n = omega arith in
       shows_more bl ol el m m₁ m' k S (entered_state S e) (entered e n b.counters.stamp (entry_price b e.side e.price)) new n up self w refl
       (λ p i. earlier-stands b e p (ascends-in 1 n b.orders p up i).1)
@@ -124,12 +124,12 @@ module _ {L B O E : Type 0} (bl : Ghosts B BidRank) (ol : Ghosts O OfferRank) (e
       (f ∙ ap (λ (v : Board). entries_of v o) is ∙ ap (λ (x : Order). entries_of (entered_board b e) x) did.order) made
 
   pub entry_done : (m m₁ m' : Memory L B O E) (k : Opening) (S : State) (e : OrderEntry) (o : Order) (new : Entries) → Sound k S →
-      Screens m.settings (board_of m.board) e None →
+      Screens m.settings m.board e None →
       Ok tt ≡ refused_if (leb (room_for k e.side) (count (on e.side) S.board.orders)) Full →
       Ok tt ≡ refused_if (is_some e.end && leb k.ends (count ending S.board.orders)) Full →
       Shows bl ol el m k S → Untouched bl ol el m m₁ →
-      Enters e o (board_of m.board) (board_of m₁.board) m.reserves.items m₁.reserves.items →
-      new ≡ entries_of (board_of m₁.board) o → Enlisted bl ol el m₁ m' new →
+      Enters e o m.board m₁.board m.reserves.items m₁.reserves.items →
+      new ≡ entries_of m₁.board o → Enlisted bl ol el m₁ m' new →
       Replies bl ol el m' k (Ok (Entered o.number)) (step k S (Entry e))
   unfolding step line_full entered
   entry_done m m₁ m' k S e o new sound screens x y w u done f made =

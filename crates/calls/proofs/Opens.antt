@@ -8,7 +8,6 @@ use Rattle.market.specs.declared.rank.EndTime.{EndTime}
 use Rattle.rules.specs.Base.{each}
 use Rattle.rules.specs.Board.{Opening}
 use Rattle.rules.specs.Calls.{opened}
-use Rattle.board.specs.Memory.{board_of}
 use Rattle.board.specs.EndTimes.{end_time}
 use Rattle.queues.specs.Entries.{bid_entry, offer_entry}
 use Rattle.queues.proofs.Kept.{lists-none}
@@ -31,7 +30,7 @@ module _ {L B O E : Type 0} (bl : Ghosts B BidRank) (ol : Ghosts O OfferRank) (e
       ap (λ q. make s (bl.room x) q (el.room m.ends)) g ∙
       ap (make s (bl.room x) (ol.room y)) h
 
-  pub opened-shown : (m : Memory L B O E) (s : Settings) (x : B) (y : O) (z : E) → m.settings ≡ s → board_of m.board ≡ opened.board →
+  pub opened-shown : (m : Memory L B O E) (s : Settings) (x : B) (y : O) (z : E) → m.settings ≡ s → m.board ≡ opened.board →
       m.reserves.items ≡ [] → Emptied bl x m.bids → Emptied ol y m.offers → Emptied el z m.ends →
       Shows bl ol el m (opening_with bl ol el s x y z) opened
   unfolding opened each

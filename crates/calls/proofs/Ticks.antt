@@ -10,7 +10,6 @@ use Rattle.rules.specs.Board.{Opening, Board, State}
 use Rattle.rules.specs.Standings.{standing}
 use Rattle.rules.specs.Refusing.{tick_refusal}
 use Rattle.rules.specs.Calls.{ticked_board, step}
-use Rattle.board.specs.Memory.{board_of}
 use Rattle.memory.specs.declared.memory.Memory.{Memory}
 use Rattle.memory.specs.Shown.{Shows}
 use Rattle.memory.proofs.Showing.{Untouched, shows-still}
@@ -19,7 +18,7 @@ use Rattle.calls.proofs.Replies.{broken, Replies, refused, accepted}
 
 module _ {L B O E : Type 0} (bl : Ghosts B BidRank) (ol : Ghosts O OfferRank) (el : Ghosts E EndTime) where
   pub tick-refused : (m : Memory L B O E) (k : Opening) (S : State) (t : ℕ) (r : Result (Unit {0}) Refusal) (x : Refusal) →
-      IsErrAnd r (λ y. y ≡ x) → tick_refusal (board_of m.board) t ≡ Some x → Shows bl ol el m k S →
+      IsErrAnd r (λ y. y ≡ x) → tick_refusal m.board t ≡ Some x → Shows bl ol el m k S →
       Replies bl ol el m k (plain_answer r) (step k S (Tick t))
   unfolding step
   tick-refused m k S t r x h e w =
@@ -27,14 +26,14 @@ module _ {L B O E : Type 0} (bl : Ghosts B BidRank) (ol : Ghosts O OfferRank) (e
       (ap (λ (z : Result (Unit {0}) Refusal). plain_answer z) (broken r h)) w
 
   ticked : (m m' : Memory L B O E) (k : Opening) (S : State) (t : ℕ) → Shows bl ol el m k S → Untouched bl ol el m m' → m'.reserves ≡ m.reserves →
-      board_of m'.board ≡ ticked_board (board_of m.board) t → Shows bl ol el m' k (record { board = ticked_board S.board t; hidden = S.hidden })
+      m'.board ≡ ticked_board m.board t → Shows bl ol el m' k (record { board = ticked_board S.board t; hidden = S.hidden })
   unfolding ticked_board standing
   ticked m m' k S t w u r e =
       shows-still bl ol el m m' k S (record { board = ticked_board S.board t; hidden = S.hidden }) w u (e ∙ ap (λ (b : Board). ticked_board b t) w.board)
       (w.reserves ∙ sym (ap (λ x. x.items) r)) refl (λ p i. refl)
 
-  pub tick-done : (m m' : Memory L B O E) (k : Opening) (S : State) (t : ℕ) → tick_refusal (board_of m.board) t ≡ None → Shows bl ol el m k S →
-      Untouched bl ol el m m' → m'.reserves ≡ m.reserves → board_of m'.board ≡ ticked_board (board_of m.board) t →
+  pub tick-done : (m m' : Memory L B O E) (k : Opening) (S : State) (t : ℕ) → tick_refusal m.board t ≡ None → Shows bl ol el m k S →
+      Untouched bl ol el m m' → m'.reserves ≡ m.reserves → m'.board ≡ ticked_board m.board t →
       Replies bl ol el m' k (Ok Done) (step k S (Tick t))
   unfolding step
   tick-done m m' k S t e w u r f =

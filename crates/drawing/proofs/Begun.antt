@@ -23,8 +23,6 @@ use Rattle.rules.proofs.Tests.{none≢some}
 use Rattle.rules.proofs.Rows.{ascends-unique, ordered-in}
 use Rattle.rules.proofs.Reasons.{Begins, Why, why}
 use Rattle.board.specs.EndTimes.{end_time}
-use Rattle.board.specs.Memory.{board_of}
-use Rattle.board.specs.declared.board.Board.{Board as Held}
 use Rattle.queues.specs.Entries.{bid_entry, offer_entry, side_entry}
 use Rattle.queues.proofs.Kept.{lists-alike}
 use Rattle.invariants.specs.Sound.{Sound}
@@ -112,9 +110,9 @@ module _ {L B O E : Type 0} (bl : Ghosts B BidRank) (ol : Ghosts O OfferRank) (e
       }
 
   -- z is the trigger as it starts, at the price of the passive order
-  pub begun : (m m' : Memory L B O E) (held : Held) (k : Opening) (S : State) (x y z : Order) (p : ℤ) (old new : Entries) → Sound k S → Shows bl ol el m k S →
-      decided k S.board ≡ begins x y → board_of held ≡ begun_board (board_of m.board) x y → p ≡ y.price → z ≡ started x.number y.side p x →
-      old ≡ entries_of (board_of m.board) x → new ≡ entries_of (board_of held) z → Relisted bl ol el (with_board m held) m' old new →
+  pub begun : (m m' : Memory L B O E) (held : Board) (k : Opening) (S : State) (x y z : Order) (p : ℤ) (old new : Entries) → Sound k S → Shows bl ol el m k S →
+      decided k S.board ≡ begins x y → held ≡ begun_board m.board x y → p ≡ y.price → z ≡ started x.number y.side p x →
+      old ≡ entries_of m.board x → new ≡ entries_of held z → Relisted bl ol el (with_board m held) m' old new →
       Shows bl ol el m' k (after S (begins x y)) × (Session m'.board.clock.time p y.number ≡ record_of S.hidden S.board (begins x y))
   unfolding board_after hidden_after record_of begun_board started
   begun m m' held k S x y z p old new sound w d is e ze oe ne made =
@@ -125,13 +123,13 @@ module _ {L B O E : Type 0} (bl : Ghosts B BidRank) (ol : Ghosts O OfferRank) (e
       let n = b.counters.number in
       let up = sound.row.rising in
       let there = ready b x y (subst (Why k b) d (why k b)) in
-      let here : board_of held ≡ b' = is ∙ ap (λ (v : Board). begun_board v x y) w.board in
+      let here : held ≡ b' = is ∙ ap (λ (v : Board). begun_board v x y) w.board in
       let oe' : old ≡ entries_of b x = oe ∙ ap (λ (v : Board). entries_of v x) w.board in
       let ze' : z ≡ f x = ze ∙ ap (λ (q : ℤ). started x.number y.side q x) e in
       let ne' : new ≡ entries_of b' (f x) = ne ∙ ap (λ (v : Board). entries_of v z) here ∙ ap (entries_of b') ze' in
       let made' : Relisted bl ol el m₁ m' (entries_of b x) (entries_of b' (f x)) =
       subst (λ (v : Entries). Relisted bl ol el m₁ m' (entries_of b x) v) ne' (subst (λ (v : Entries). Relisted bl ol el m₁ m' v new) oe' made) in
-      let board : board_of m'.board ≡ b' = ap (λ (v : Held). board_of v) made.same.board ∙ here in (
+      let board : m'.board ≡ b' = made.same.board ∙ here in (
         record {
           opening = opening-relisted bl ol el m₁ m' old new made ∙ opening-alone bl ol el m m₁ refl refl refl refl ∙ w.opening;
           board = board;

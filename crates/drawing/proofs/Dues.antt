@@ -16,7 +16,6 @@ use Rattle.rules.specs.Standings.{ahead}
 use Rattle.rules.specs.Entitlement.{first_entitled}
 use Rattle.rules.specs.Draws.{Step, begins, fills, removes, rests, both, incoming_of, passive_for, opening, pairing, goes, as_removal, removing, phase_end, expiring, earlier, coming, decided}
 use Rattle.board.specs.EndTimes.{end_time}
-use Rattle.board.specs.Memory.{board_of}
 use Rattle.queues.specs.Lists.{InStep}
 use Rattle.queues.specs.Entries.{bid_entry, offer_entry}
 use Rattle.draws.specs.Removals.{with_cause, removal_due}
@@ -104,40 +103,42 @@ first-due k b d e = ap (λ (v : Option Step). or_else v rests) e ∙ go (opening
 module _ {L B O E : Type 0} (bl : Ghosts B BidRank) (ol : Ghosts O OfferRank) (el : Ghosts E EndTime) where
   -- its lines are in step with its board
   pub bids-in-step : (m : Memory L B O E) (k : Opening) (S : State) → Sound k S → Shows bl ol el m k S →
-      InStep bid_ahead bid_entry bl m.bids (board_of m.board)
+      InStep bid_ahead bid_entry bl m.bids m.board
   bids-in-step m k S s w =
       subst (InStep bid_ahead bid_entry bl m.bids) (sym w.board)
       (record { below = S.board.counters.number; rising = s.row.rising; lists = w.queued.bids })
 
   pub offers-in-step : (m : Memory L B O E) (k : Opening) (S : State) → Sound k S → Shows bl ol el m k S →
-      InStep offer_ahead offer_entry ol m.offers (board_of m.board)
+      InStep offer_ahead offer_entry ol m.offers m.board
   offers-in-step m k S s w =
       subst (InStep offer_ahead offer_entry ol m.offers) (sym w.board)
       (record { below = S.board.counters.number; rising = s.row.rising; lists = w.queued.offers })
 
   pub ends-in-step : (m : Memory L B O E) (k : Opening) (S : State) → Sound k S → Shows bl ol el m k S →
-      InStep end_ahead (λ b. end_time) el m.ends (board_of m.board)
+      InStep end_ahead (λ b. end_time) el m.ends m.board
   ends-in-step m k S s w =
       subst (InStep end_ahead (λ b. end_time) el m.ends) (sym w.board)
       (record { below = S.board.counters.number; rising = s.row.rising; lists = w.queued.ends })
 
   pub meets-there : (m : Memory L B O E) (k : Opening) (S : State) (meets : Bool) → Shows bl ol el m k S → meets ≡ meet S.board.orders →
-      meets ≡ meet m.board.orders.items
+      meets ≡ meet m.board.orders
   meets-there m k S meets w e = e ∙ ap (λ (b : Board). meet b.orders) (sym w.board)
 
   -- the order that one of this side meets
   pub passive : (m : Memory L B O E) (k : Opening) (S : State) (o : Order) (s : Side) (r : Option Order) → Shows bl ol el m k S → o.side ≡ s →
-      r ≡ first (on (other s)) (ahead (board_of m.board)) m.board.orders.items → r ≡ passive_for S.board (Some o)
+      r ≡ first (on (other s)) (ahead m.board) m.board.orders → r ≡ passive_for S.board (Some o)
   passive m k S o s r w e f =
-      f ∙ ap (λ (v : Side). first (on (other v)) (ahead (board_of m.board)) m.board.orders.items) (sym e) ∙
+      f ∙ ap (λ (v : Side). first (on (other v)) (ahead m.board) m.board.orders) (sym e) ∙
       ap (λ (b : Board). passive_for b (Some o)) w.board
 
-  pub comes : (m : Memory L B O E) (k : Opening) (S : State) (t : Option ℕ) (x : Option (Order × ℕ)) → Shows bl ol el m k S →
-      t ≡ phase_end m.board.phase m.settings m.board.session → x ≡ expiring m.board.clock.wished m.board.orders.items →
-      earlier m.board.clock.wished t x ≡ coming k S.board
+  pub comes : (m : Memory L B O E) (k : Opening) (S : State) (u : ℕ) (t : Option ℕ) (x : Option (Order × ℕ)) → Shows bl ol el m k S →
+      u ≡ m.board.clock.wished →
+      t ≡ phase_end m.board.phase m.settings m.board.session → x ≡ expiring u m.board.orders →
+      earlier u t x ≡ coming k S.board
   unfolding coming
-  comes m k S t x w e f =
+  comes m k S u t x w h e f =
       let wished = m.board.clock.wished in
+      ap (λ (v : ℕ). earlier v t x) h ∙
       ap (λ (v : Option ℕ). earlier wished v x) e ∙
-      ap (earlier wished (phase_end m.board.phase m.settings m.board.session)) f ∙
-      ap (λ (o : Opening). coming o (board_of m.board)) w.opening ∙ ap (coming k) w.board
+      ap (earlier wished (phase_end m.board.phase m.settings m.board.session)) (f ∙ ap (λ (v : ℕ). expiring v m.board.orders) h) ∙
+      ap (λ (o : Opening). coming o m.board) w.opening ∙ ap (coming k) w.board

@@ -14,7 +14,7 @@ use Rattle.rules.specs.Draws.{removes, expires, decided, removed_board, record_o
 use Rattle.rules.specs.Members.{In}
 use Rattle.rules.specs.Rising.{Ascends}
 use Rattle.rules.proofs.Reasons.{Why, why}
-use Rattle.board.specs.Memory.{board_of, Reserved}
+use Rattle.board.specs.Memory.{Reserved}
 use Rattle.draws.specs.Removals.{Kept}
 use Rattle.invariants.specs.Sound.{Sound}
 use Rattle.memory.specs.declared.memory.Memory.{Memory}
@@ -36,17 +36,17 @@ module _ {L B O E : Type 0} (bl : Ghosts B BidRank) (ol : Ghosts O OfferRank) (e
   -- the board and the reserves let the order go, then the lines
   pub removed : (m m₁ m' : Memory L B O E) (k : Opening) (S : State) (o : Order) (t : ℕ) (old new : Entries) → Sound k S → Shows bl ol el m k S →
       In o S.board.orders → Untouched bl ol el m m₁ →
-      ((i j : ℕ) → Ascends i j m.board.orders.items → board_of m₁.board ≡ removed_board (board_of m.board) t o) →
-      ((i j : ℕ) → Ascends i j m.board.orders.items →
-      Kept m.board.orders.items m.reserves.items m₁.board.orders.items m₁.reserves.items) →
-      old ≡ entries_of (board_of m.board) o → new ≡ no_entries → Relisted bl ol el m₁ m' old new →
+      ((i j : ℕ) → Ascends i j m.board.orders → m₁.board ≡ removed_board m.board t o) →
+      ((i j : ℕ) → Ascends i j m.board.orders →
+      Kept m.board.orders m.reserves.items m₁.board.orders m₁.reserves.items) →
+      old ≡ entries_of m.board o → new ≡ no_entries → Relisted bl ol el m₁ m' old new →
       Shows bl ol el m' k (record { board = removed_board S.board t o; hidden = S.hidden })
   unfolding removed_board standing
   removed m m₁ m' k S o t old new q w here u board reserves e f made =
       let b = S.board in
       let n = b.counters.number in
-      let up : Ascends 1 n m.board.orders.items = subst (λ (v : Board). Ascends 1 n v.orders) (sym w.board) q.row.rising in
-      let is : board_of m₁.board ≡ removed_board b t o = board 1 n up ∙ ap (λ (v : Board). removed_board v t o) w.board in
+      let up : Ascends 1 n m.board.orders = subst (λ (v : Board). Ascends 1 n v.orders) (sym w.board) q.row.rising in
+      let is : m₁.board ≡ removed_board b t o = board 1 n up ∙ ap (λ (v : Board). removed_board v t o) w.board in
       let kept = reserves 1 n up S.hidden (subst (λ (v : Board). Reserved S.hidden v.orders m.reserves.items) (sym w.board) w.reserves) in
       shows-replaced bl ol el m m₁ m' k S (record { board = removed_board b t o; hidden = S.hidden }) o None old new n q.row.rising w here tt tt refl
       (λ p i d. standing-unseen o.number (freed o.number) o.trader o.side b.phase b.session.buyer b.session.seller b.privileges p
@@ -55,13 +55,14 @@ module _ {L B O E : Type 0} (bl : Ghosts B BidRank) (ol : Ghosts O OfferRank) (e
       (e ∙ ap (λ (v : Board). entries_of v o) w.board) f made
 
   -- an order that is removed leaves at the time that the book has reached
-  pub removed-now : (m m' : Memory L B O E) (k : Opening) (S : State) (o : Order) (c : Cause) (r : Record) → Sound k S → Shows bl ol el m k S →
-      decided k S.board ≡ removes o c → Leaves bl ol el m m' o m.board.clock.time →
-      r ≡ Removal m.board.clock.time o.number o.displayed c →
+  pub removed-now : (m m' : Memory L B O E) (k : Opening) (S : State) (o : Order) (c : Cause) (t : ℕ) (r : Record) → Sound k S → Shows bl ol el m k S →
+      decided k S.board ≡ removes o c → t ≡ m.board.clock.time → Leaves bl ol el m m' o t →
+      r ≡ Removal t o.number o.displayed c →
       Shows bl ol el m' k (after S (removes o c)) × (r ≡ record_of S.hidden S.board (removes o c))
   unfolding record_of board_after hidden_after
-  removed-now m m' k S o c r sound w d leaves e = (
-    subst (λ (b : Board). Shows bl ol el m' k (record { board = removed_board S.board b.clock.time o; hidden = S.hidden })) w.board
-        (leaves k S sound w (removes-live k S.board o c d)),
-    e ∙ ap (λ (b : Board). Removal b.clock.time o.number o.displayed c) w.board,
-  )
+  removed-now m m' k S o c t r sound w d is leaves e =
+      let now : t ≡ S.board.clock.time = is ∙ ap (λ (b : Board). b.clock.time) w.board in (
+        subst (λ (x : ℕ). Shows bl ol el m' k (record { board = removed_board S.board x o; hidden = S.hidden })) now
+            (leaves k S sound w (removes-live k S.board o c d)),
+        e ∙ ap (λ (x : ℕ). Removal x o.number o.displayed c) now,
+      )

@@ -23,8 +23,7 @@ use Rattle.rules.proofs.Reasons.{Why, why}
 use Rattle.rules.proofs.Rows.{ascends-unique, ascends-replace, replace-in}
 use Rattle.rules.proofs.Tests.{same_true}
 use Rattle.invariants.specs.Sound.{Sound}
-use Rattle.board.specs.Memory.{board_of, Reserved}
-use Rattle.board.specs.declared.board.Board.{Board as Held}
+use Rattle.board.specs.Memory.{Reserved}
 use Rattle.draws.specs.Settled.{Fills}
 use Rattle.draws.specs.declared.fills.Filled.{Filled}
 use Rattle.memory.specs.declared.memory.Memory.{Memory}
@@ -157,9 +156,9 @@ module _ {L B O E : Type 0} (bl : Ghosts B BidRank) (ol : Ghosts O OfferRank) (e
   -- the state after a fill
   pub traded : (m m₁ m₂ m₃ : Memory L B O E) (k : Opening) (S : State) (bid offer : Order) (r : Filled) (old new old' new' : Entries) →
       Sound k S → Shows bl ol el m k S → decided k S.board ≡ fills bid offer → Untouched bl ol el m m₁ →
-      Fills (board_of m.board) m.reserves.items bid offer (board_of m₁.board) m₁.reserves.items r →
-      old ≡ entries_of (board_of m.board) bid → new ≡ afterwards (board_of m₁.board) r.bid →
-      old' ≡ entries_of (board_of m.board) offer → new' ≡ afterwards (board_of m₁.board) r.offer →
+      Fills m.board m.reserves.items bid offer m₁.board m₁.reserves.items r →
+      old ≡ entries_of m.board bid → new ≡ afterwards m₁.board r.bid →
+      old' ≡ entries_of m.board offer → new' ≡ afterwards m₁.board r.offer →
       Relisted bl ol el m₁ m₂ old new → Relisted bl ol el m₂ m₃ old' new' →
       Shows bl ol el m₃ k (after S (fills bid offer)) × (Fill m.board.clock.time r.fill ≡ record_of S.hidden S.board (fills bid offer))
   unfolding board_after hidden_after record_of
@@ -175,13 +174,13 @@ module _ {L B O E : Type 0} (bl : Ghosts B BidRank) (ol : Ghosts O OfferRank) (e
       let y = sided b Offer offer pair.1 in
       let up = sound.row.rising in
       let ne : bid.number ≡ offer.number → ⊥ = apart 1 n b.orders bid offer up x.0 y.0 x.1 y.1 in
-      let t = subst (λ (v : Board). Fills v m.reserves.items bid offer (board_of m₁.board) m₁.reserves.items r) w.board filled
+      let t = subst (λ (v : Board). Fills v m.reserves.items bid offer m₁.board m₁.reserves.items r) w.board filled
       1 n S.hidden (bounded k S sound) up x.0 y.0 ne w.reserves in (
         record {
           opening =
               opening-relisted bl ol el m₂ m₃ old' new' r₂ ∙ opening-relisted bl ol el m₁ m₂ old new r₁ ∙
               opening-alone bl ol el m m₁ u.settings u.bids u.offers u.ends ∙ w.opening;
-          board = ap (λ (v : Held). board_of v) r₂.same.board ∙ ap (λ (v : Held). board_of v) r₁.same.board ∙ t.board;
+          board = r₂.same.board ∙ r₁.same.board ∙ t.board;
           reserves = subst (λ (v : Board). Reserved (drawn_from (drawn_from S.hidden bid f) offer g) v.orders m₃.reserves.items) t.board
               (t.reserves ∙ sym (ap (λ v. v.items) (r₂.same.reserves ∙ r₁.same.reserves)));
           queued = pair-queued m m₁ m₂ m₃ b bid offer size f g n old new old' new' up x.0 y.0 ne u

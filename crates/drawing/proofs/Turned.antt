@@ -6,8 +6,6 @@ use Rattle.market.specs.Ranks.{BidRank, OfferRank}
 use Rattle.market.specs.declared.rank.EndTime.{EndTime}
 use Rattle.rules.specs.Board.{Opening, Board, State, is_fbs}
 use Rattle.rules.specs.Draws.{turns, phase_after, turn_record, turned_board, record_of, board_after, hidden_after}
-use Rattle.board.specs.Memory.{board_of}
-use Rattle.board.specs.declared.board.Board.{Board as Held}
 use Rattle.invariants.specs.Sound.{Sound}
 use Rattle.memory.specs.declared.memory.Memory.{Memory}
 use Rattle.memory.specs.Shown.{Shows, Reranked}
@@ -18,12 +16,12 @@ use Rattle.drawing.proofs.Plain.{stands_alike}
 
 -- the book turned, from phase p
 module _ {L B O E : Type 0} (bl : Ghosts B BidRank) (ol : Ghosts O OfferRank) (el : Ghosts E EndTime)
-    (m : Memory L B O E) (held : Held) (k : Opening) (S : State) (t : ℕ) (w : Shows bl ol el m k S)
-    (e : board_of held ≡ turned_board (board_of m.board) t) (p : Phase) (is : m.board.phase ≡ p) where
+    (m : Memory L B O E) (held : Board) (k : Opening) (S : State) (t : ℕ) (w : Shows bl ol el m k S)
+    (e : held ≡ turned_board m.board t) (p : Phase) (is : m.board.phase ≡ p) where
   phase : S.board.phase ≡ p
   phase = sym (ap (λ (b : Board). b.phase) w.board) ∙ is
 
-  board : board_of held ≡ turned_board S.board t
+  board : held ≡ turned_board S.board t
   board = e ∙ ap (λ (b : Board). turned_board b t) w.board
 
   told : turn_record p t ≡ record_of S.hidden S.board (turns t)

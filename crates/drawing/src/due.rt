@@ -3,7 +3,6 @@ ghost use Rattle.std.specs.Prelude.{◌≡◌, Some};
 ghost use Rattle.rules.specs.Base.{or_else};
 ghost use Rattle.rules.specs.Board.{meet};
 ghost use Rattle.rules.specs.Draws.{rests, decided, incoming_of, passive_for, opening, pairing, removing, earlier, coming};
-ghost use Rattle.board.specs.Memory.{board_of};
 ghost use Rattle.memory.specs.Shown.{Whenever};
 ghost use Rattle.drawing.specs.Due.{meant_of};
 
@@ -37,7 +36,7 @@ pub enum Due {
 
 /// The incoming order, if it is live.
 fn incoming_order(board: &Board) -> Option<Order>
-    ensures { result ≡ incoming_of board.now.counters.incoming board.now.orders.items }
+    ensures { result ≡ incoming_of board.now.counters.incoming board.now.orders }
 {
     let number = board.counters.incoming?;
     numbered(&board.orders, number)
@@ -93,15 +92,16 @@ fn earlier(wished: u64, turn: Option<u64>, ending: Option<(Order, u64)>) -> Opti
 fn moment_due<L: BookLines>(memory: &Memory<L>) -> Option<Due>
     ensures { Whenever L.Bids.Line L.Offers.Line L.Ends.Line memory.now (λ k S. meant_of result ≡ coming k S.board) }
 {
-    let wished = memory.board.clock.wished;
-    let turn = phase_end(&memory.board, &memory.settings);
-    let ending = first_ending(&memory.board, &memory.ends, wished);
+    let board = &memory.board;
+    let wished = board.clock.wished;
+    let turn = phase_end(board, &memory.settings);
+    let ending = first_ending(board, &memory.ends, wished);
     earlier(wished, turn, ending)
 }
 
 /// The order that must go because of its type.
 fn removal_due(board: &Board) -> Option<Due>
-    ensures { meant_of result ≡ removing (board_of board.now) }
+    ensures { meant_of result ≡ removing board.now }
 {
     let (order, cause) = removals::removal_due(board)?;
     Some(Due::Removal { order, cause })

@@ -3,7 +3,6 @@ ghost use Rattle.std.specs.Prelude.{◌≡◌};
 ghost use Rattle.rules.specs.Board.{in_session};
 ghost use Rattle.rules.specs.Entitlement.{prior_left};
 ghost use Rattle.rules.specs.Fills.{displayed_of, completions_after, privileges_after, aggressor_after, session_after, fill_price};
-ghost use Rattle.board.specs.Memory.{board_of};
 ghost use Rattle.draws.specs.Remainders.{meant};
 ghost use Rattle.draws.specs.Settled.{Settles, Fills};
 
@@ -33,7 +32,7 @@ pub struct Filled {
 
 /// In a session at its price, otherwise at the price of the order that is not incoming.
 fn fill_price(board: &Board, bid: &Order, offer: &Order) -> i32
-    ensures { result ≡ fill_price (in_session board.now.phase) (board_of board.now) bid.now offer.now }
+    ensures { result ≡ fill_price (in_session board.now.phase) board.now bid.now offer.now }
 {
     if in_session(board.phase) {
         return board.session.price;
@@ -52,7 +51,7 @@ fn displayed_of(order: Option<Order>) -> u32
 
 /// The Aggressive Owner after a fill.
 fn aggressor_after(board: &Board) -> Option<u8>
-    ensures { result ≡ aggressor_after board.now.phase (prior_left board.now.orders.items) board.now.session }
+    ensures { result ≡ aggressor_after board.now.phase (prior_left board.now.orders) board.now.session }
 {
     let session = &board.session;
     match board.phase {
@@ -65,7 +64,7 @@ fn aggressor_after(board: &Board) -> Option<u8>
 
 /// The session after a fill of these orders, which the board no longer shows as they were.
 fn session_after(board: &Board, bid: &Order, offer: &Order) -> Session
-    ensures { result ≡ session_after board.now.phase (prior_left board.now.orders.items) board.now.clock.time bid.now offer.now board.now.session }
+    ensures { result ≡ session_after board.now.phase (prior_left board.now.orders) board.now.clock.time bid.now offer.now board.now.session }
 {
     let aggressor = aggressor_after(board);
     if !in_session(board.phase) {
@@ -117,7 +116,7 @@ fn settle(
     size: u32,
     fill: u64,
 ) -> Option<Order>
-    ensures { Settles (board_of board.old) reserves.old.items order.now size fill (board_of board.new) reserves.new.items result }
+    ensures { Settles board.old reserves.old.items order.now size fill board.new reserves.new.items result }
 {
     let session = in_session(board.phase);
     let row = position(&board.orders, order.number);
@@ -150,7 +149,7 @@ pub fn fill(
     bid: &Order,
     offer: &Order,
 ) -> Filled
-    ensures { Fills (board_of board.old) reserves.old.items bid.now offer.now (board_of board.new) reserves.new.items result }
+    ensures { Fills board.old reserves.old.items bid.now offer.now board.new reserves.new.items result }
 {
     let size = bid.displayed.min(offer.displayed);
     let number = board.counters.fills.saturating_add(1);

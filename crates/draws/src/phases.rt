@@ -1,7 +1,7 @@
 //! Phases, their ends, and the quiet tape.
 ghost use Rattle.std.specs.Prelude.{◌≡◌};
 ghost use Rattle.rules.specs.Draws.{phase_end, phase_after, privileges_in, reaching, turned_board, settled_session, rested_board};
-ghost use Rattle.board.specs.Memory.{board_of, Bounded};
+ghost use Rattle.board.specs.Memory.{Bounded};
 ghost use Rattle.draws.specs.Parts.{with_privileges};
 
 use board::board::Board;
@@ -10,7 +10,7 @@ use market::state::{Clock, Phase, Session};
 
 /// When the phase ends, if it ends by itself: Rolling so long after the session's last fill, but not before it began.
 pub fn phase_end(board: &Board, settings: &Settings) -> Option<u64>
-    ensures { Bounded (board_of board.now) → result ≡ phase_end board.now.phase settings.now board.now.session }
+    ensures { Bounded board.now → result ≡ phase_end board.now.phase settings.now board.now.session }
 {
     let session = &board.session;
     match board.phase {
@@ -37,7 +37,7 @@ fn phase_after(phase: Phase) -> Phase
 
 /// The privileges as a phase ends: they are settled as the FBS Period begins, and end with it.
 fn settle_privileges(board: &mut Board)
-    ensures { board_of board.new ≡ with_privileges (privileges_in board.old.phase (board_of board.old)) (board_of board.old) }
+    ensures { board.new ≡ with_privileges (privileges_in board.old.phase board.old) board.old }
 {
     match board.phase {
         Phase::Rolling => board.privileges.grant(&board.orders, &board.completions),
@@ -54,7 +54,7 @@ pub(crate) fn reach(clock: &mut Clock, time: u64)
 
 /// The phase ends at this time, and the next begins.
 pub fn turn(board: &mut Board, time: u64)
-    ensures { board_of board.new ≡ turned_board (board_of board.old) time }
+    ensures { board.new ≡ turned_board board.old time }
 {
     settle_privileges(board);
     board.phase = phase_after(board.phase);
@@ -71,7 +71,7 @@ fn settle_session(session: &mut Session)
 
 /// The tape is quiet: the book reaches the wished time, and the session, if one runs, has had its first quiet.
 pub fn rest(board: &mut Board)
-    ensures { board_of board.new ≡ rested_board (board_of board.old) }
+    ensures { board.new ≡ rested_board board.old }
 {
     board.clock.time = board.clock.wished;
     board.clock.quiet = true;

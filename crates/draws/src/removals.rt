@@ -3,7 +3,6 @@ ghost use Rattle.std.specs.Prelude.{◌≡◌, ℕ};
 ghost use Rattle.rules.specs.Base.{find};
 ghost use Rattle.rules.specs.Draws.{must_go, cause_of, removed_board};
 ghost use Rattle.rules.specs.Rising.{Ascends};
-ghost use Rattle.board.specs.Memory.{board_of};
 ghost use Rattle.draws.specs.Removals.{removal_due, Kept};
 
 use crate::phases::reach;
@@ -43,7 +42,7 @@ fn first_to_go(orders: &[Order], session: bool) -> Option<Order>
 
 /// The lowest-numbered order that must go, and why.
 pub fn removal_due(board: &Board) -> Option<(Order, Cause)>
-    ensures { result ≡ removal_due (board_of board.now) }
+    ensures { result ≡ removal_due board.now }
 {
     let order = first_to_go(&board.orders, in_session(board.phase))?;
     Some((order, cause_of(order.kind)))
@@ -51,8 +50,8 @@ pub fn removal_due(board: &Board) -> Option<(Order, Cause)>
 
 /// The order is removed at this time.
 pub fn remove(board: &mut Board, reserves: &mut ArrayVec<u32, 128>, order: &Order, time: u64)
-    ensures board { (k m : ℕ) → Ascends k m board.old.orders.items → board_of board.new ≡ removed_board (board_of board.old) time order.now }
-    ensures reserves { (k m : ℕ) → Ascends k m board.old.orders.items → Kept board.old.orders.items reserves.old.items board.new.orders.items reserves.new.items }
+    ensures board { (k m : ℕ) → Ascends k m board.old.orders → board.new ≡ removed_board board.old time order.now }
+    ensures reserves { (k m : ℕ) → Ascends k m board.old.orders → Kept board.old.orders reserves.old.items board.new.orders reserves.new.items }
 {
     board.strike(reserves, order);
     reach(&mut board.clock, time);

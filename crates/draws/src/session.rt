@@ -2,7 +2,6 @@
 ghost use Rattle.std.specs.Prelude.{◌≡◌};
 ghost use Rattle.rules.specs.Base.{each};
 ghost use Rattle.rules.specs.Draws.{started, begun_board};
-ghost use Rattle.board.specs.Memory.{board_of};
 
 use crate::edits;
 use arrayvec::ArrayVec;
@@ -22,7 +21,7 @@ fn start_orders(orders: &mut ArrayVec<Order, 128>, trigger: u32, passive: Side, 
 
 /// The trigger, which met the passive order, begins a session at the latter's price.
 pub fn begin_session(board: &mut Board, trigger: &Order, passive: &Order)
-    ensures { board_of board.new ≡ begun_board (board_of board.old) trigger.now passive.now }
+    ensures { board.new ≡ begun_board board.old trigger.now passive.now }
 {
     start_orders(
         &mut board.orders,

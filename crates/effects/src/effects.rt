@@ -2,7 +2,6 @@
 ghost use Rattle.std.specs.Prelude.{◌≡◌, if◌then◌else◌};
 ghost use Rattle.rules.specs.Refusing.{entry_price};
 ghost use Rattle.rules.specs.Calls.{awaiting, entered, takes_stamp, changed, ticked_board};
-ghost use Rattle.board.specs.Memory.{board_of};
 ghost use Rattle.effects.specs.Effects.{claimed_board, forfeited_board, Enters, Changes, Cancels};
 
 use arrayvec::ArrayVec;
@@ -26,7 +25,7 @@ fn await_draws(clock: &mut Clock, wished: u64)
 
 /// In the FBS Period an entry at the session's price or worse takes what its trader has on the side, if that is free.
 fn claim(board: &mut Board, wanted: &OrderEntry, order: &Order)
-    ensures { board_of board.new ≡ claimed_board (board_of board.old) wanted.now order.now }
+    ensures { board.new ≡ claimed_board board.old wanted.now order.now }
 {
     if in_fbs(board.phase) && !is_better(wanted.side, order.price, board.session.price) {
         let seat = Seat {
@@ -39,7 +38,7 @@ fn claim(board: &mut Board, wanted: &OrderEntry, order: &Order)
 
 /// In the FBS Period a price better than the session's ends what the order carries.
 fn forfeit(board: &mut Board, order: &Order, price: i32)
-    ensures { board_of board.new ≡ forfeited_board (board_of board.old) order.now price }
+    ensures { board.new ≡ forfeited_board board.old order.now price }
 {
     if in_fbs(board.phase) && is_better(order.side, price, board.session.price) {
         board.privileges.lose(Seat::of(order), order.number);
@@ -48,7 +47,7 @@ fn forfeit(board: &mut Board, order: &Order, price: i32)
 
 /// The new order of an entry.
 fn new_order(board: &Board, wanted: &OrderEntry) -> Order
-    ensures { result ≡ entered wanted.now board.now.counters.number board.now.counters.stamp (entry_price (board_of board.now) wanted.now.side wanted.now.price) }
+    ensures { result ≡ entered wanted.now board.now.counters.number board.now.counters.stamp (entry_price board.now wanted.now.side wanted.now.price) }
 {
     Order {
         number: board.counters.number,
@@ -68,7 +67,7 @@ fn new_order(board: &Board, wanted: &OrderEntry) -> Order
 
 /// The entry becomes a live order, which is answered.
 pub fn enter(board: &mut Board, reserves: &mut ArrayVec<u32, 128>, wanted: &OrderEntry) -> Order
-    ensures { Enters wanted.now result (board_of board.old) (board_of board.new) reserves.old.items reserves.new.items }
+    ensures { Enters wanted.now result board.old board.new reserves.old.items reserves.new.items }
 {
     let order = new_order(board, wanted);
     claim(board, wanted, &order);
@@ -122,7 +121,7 @@ pub fn change(
     change: &OrderChange,
     order: &Order,
 ) -> Order
-    ensures { Changes change.now order.now result (board_of board.old) (board_of board.new) reserves.old.items reserves.new.items }
+    ensures { Changes change.now order.now result board.old board.new reserves.old.items reserves.new.items }
 {
     let stamp = board.counters.stamp;
     let anew = takes_stamp(change, order);
@@ -144,7 +143,7 @@ pub fn change(
 
 /// The order is taken back.
 pub fn cancel(board: &mut Board, reserves: &mut ArrayVec<u32, 128>, order: &Order)
-    ensures { Cancels order.now (board_of board.old) (board_of board.new) reserves.old.items reserves.new.items }
+    ensures { Cancels order.now board.old board.new reserves.old.items reserves.new.items }
 {
     board.strike(reserves, order);
     let time = board.clock.time;
@@ -153,7 +152,7 @@ pub fn cancel(board: &mut Board, reserves: &mut ArrayVec<u32, 128>, order: &Orde
 
 /// The book is to reach this time.
 pub fn tick(board: &mut Board, time: u64)
-    ensures { board_of board.new ≡ ticked_board (board_of board.old) time }
+    ensures { board.new ≡ ticked_board board.old time }
 {
     await_draws(&mut board.clock, time);
 }

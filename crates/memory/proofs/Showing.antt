@@ -15,8 +15,7 @@ use Rattle.market.specs.Ranks.{bid_ahead, offer_ahead, end_ahead, BidRank, Offer
 use Rattle.board.specs.EndTimes.{end_time}
 use Rattle.queues.specs.Lists.{Lists}
 use Rattle.queues.specs.Entries.{bid_entry, offer_entry}
-use Rattle.board.specs.Memory.{board_of, Reserved}
-use Rattle.board.specs.declared.board.Board.{Board as Held}
+use Rattle.board.specs.Memory.{Reserved}
 use Rattle.memory.specs.declared.memory.Memory.{Memory}
 use Rattle.memory.specs.declared.entries.Entries.{Entries}
 use Rattle.memory.specs.Entries.{entries_of, afterwards}
@@ -38,7 +37,7 @@ module _ {L B O E : Type 0} (bl : Ghosts B BidRank) (ol : Ghosts O OfferRank) (e
   opens m m' u = opening-alone bl ol el m m' u.settings u.bids u.offers u.ends
 
   -- the same orders, which stand as they stood
-  pub shows-still : (m m' : Memory L B O E) (k : Opening) (S S' : State) → Shows bl ol el m k S → Untouched m m' → board_of m'.board ≡ S'.board →
+  pub shows-still : (m m' : Memory L B O E) (k : Opening) (S S' : State) → Shows bl ol el m k S → Untouched m m' → m'.board ≡ S'.board →
       Reserved S'.hidden S'.board.orders m'.reserves.items → S'.board.orders ≡ S.board.orders →
       ((p : Order) → In p S.board.orders → standing S'.board p ≡ standing S.board p) → Shows bl ol el m' k S'
   shows-still m m' k S S' w u b r os still =
@@ -55,13 +54,13 @@ module _ {L B O E : Type 0} (bl : Ghosts B BidRank) (ol : Ghosts O OfferRank) (e
       Ascends 1 n S.board.orders → Shows bl ol el m k S → In o S.board.orders → Keeps o.number r → Alike o r →
       S'.board.orders ≡ replace o.number r S.board.orders →
       ((p : Order) → In p S.board.orders → ¬ (p.number ≡ o.number) → standing S'.board p ≡ standing S.board p) →
-      Untouched m m₁ → board_of m₁.board ≡ S'.board → Reserved S'.hidden S'.board.orders m₁.reserves.items →
+      Untouched m m₁ → m₁.board ≡ S'.board → Reserved S'.hidden S'.board.orders m₁.reserves.items →
       old ≡ entries_of S.board o → new ≡ afterwards S'.board r → Relisted bl ol el m₁ m' old new → Shows bl ol el m' k S'
   shows-replaced m m₁ m' k S S' o r old new n up w here keeps alike os others u b res e f made =
       let made' = subst (λ (x : Entries). Relisted bl ol el m₁ m' (entries_of S.board o) x) f (subst (λ (x : Entries). Relisted bl ol el m₁ m' x new) e made) in
       record {
         opening = opening-relisted bl ol el m₁ m' old new made ∙ opens m m₁ u ∙ w.opening;
-        board = ap (λ (x : Held). board_of x) made.same.board ∙ b;
+        board = made.same.board ∙ b;
         reserves = subst (λ x. Reserved S'.hidden S'.board.orders x.items) (sym made.same.reserves) res;
         queued = subst (λ (xs : List Order). Queued bl ol el m' xs S'.board) (sym os)
             (requeued bl ol el m₁ m' S.board S'.board S.board.orders o r n up here keeps alike others made'
@@ -74,13 +73,13 @@ module _ {L B O E : Type 0} (bl : Ghosts B BidRank) (ol : Ghosts O OfferRank) (e
       ((p : Order) → In p S.board.orders → standing S'.board p ≡ standing S.board p) →
       (on Bid o ≡ true → count (on Bid) S.board.orders < k.bids) → (on Offer o ≡ true → count (on Offer) S.board.orders < k.offers) →
       (ending o ≡ true → count ending S.board.orders < k.ends) →
-      Untouched m m₁ → board_of m₁.board ≡ S'.board → Reserved S'.hidden S'.board.orders m₁.reserves.items →
+      Untouched m m₁ → m₁.board ≡ S'.board → Reserved S'.hidden S'.board.orders m₁.reserves.items →
       new ≡ entries_of S'.board o → Enlisted bl ol el m₁ m' new → Shows bl ol el m' k S'
   shows_more m m₁ m' k S S' o new n up above w os still x y z u b res f made =
       let is = opens m m₁ u ∙ w.opening in
       record {
         opening = opening-enlisted bl ol el m₁ m' new made ∙ is;
-        board = ap (λ (x : Held). board_of x) made.same.board ∙ b;
+        board = made.same.board ∙ b;
         reserves = subst (λ x. Reserved S'.hidden S'.board.orders x.items) (sym made.same.reserves) res;
         queued = subst (λ (xs : List Order). Queued bl ol el m' xs S'.board) (sym os)
             (queued-more bl ol el m₁ m' S'.board S.board.orders o n up above
@@ -103,11 +102,11 @@ module _ {L B O E : Type 0} (bl : Ghosts B BidRank) (ol : Ghosts O OfferRank) (e
   -- both sides are ranked anew
   pub shows-reranked : (m m₁ m' : Memory L B O E) (k : Opening) (S S' : State) (n : ℕ) → Ascends 1 n S.board.orders → Shows bl ol el m k S →
       S'.board.orders ≡ S.board.orders → count (on Bid) S.board.orders ≤ k.bids → count (on Offer) S.board.orders ≤ k.offers →
-      Untouched m m₁ → board_of m₁.board ≡ S'.board → Reserved S'.hidden S'.board.orders m₁.reserves.items →
+      Untouched m m₁ → m₁.board ≡ S'.board → Reserved S'.hidden S'.board.orders m₁.reserves.items →
       Reranked bl ol el m₁ m' → Shows bl ol el m' k S'
   shows-reranked m m₁ m' k S S' n up w os x y u b res made =
       let is = opens m m₁ u ∙ w.opening in
-      let here : (board_of m₁.board).orders ≡ S.board.orders = ap (λ (v : Board). v.orders) b ∙ os in
+      let here : m₁.board.orders ≡ S.board.orders = ap (λ (v : Board). v.orders) b ∙ os in
       let up' = subst (λ (xs : List Order). Ascends 1 n xs) (sym here) up in
       let bids = made.bids.lists n up'
       (subst (λ (xs : List Order). count (on Bid) xs ≤ bl.room m₁.bids) (sym here)
@@ -118,7 +117,7 @@ module _ {L B O E : Type 0} (bl : Ghosts B BidRank) (ol : Ghosts O OfferRank) (e
       let ends = (carry m m₁ S.board.orders S.board u w.queued).ends in
       record {
         opening = opening-reranked bl ol el m₁ m' made ∙ is;
-        board = ap (λ (v : Held). board_of v) made.same.board ∙ b;
+        board = made.same.board ∙ b;
         reserves = subst (λ v. Reserved S'.hidden S'.board.orders v.items) (sym made.same.reserves) res;
         queued = record {
           bids = subst (λ (v : Board). Queues-bids m' v) b bids;

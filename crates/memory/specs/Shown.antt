@@ -7,7 +7,7 @@ use Rattle.market.specs.declared.order.Side.TheVariants.{Bid, Offer}
 use Rattle.market.specs.declared.rank.EndTime.{EndTime}
 use Rattle.rules.specs.Board.{Opening, Board, State, on}
 use Rattle.rules.specs.Refusing.{ending}
-use Rattle.board.specs.Memory.{board_of, Reserved}
+use Rattle.board.specs.Memory.{Reserved}
 use Rattle.board.specs.EndTimes.{end_time}
 use Rattle.queues.specs.Lists.{Lists}
 use Rattle.queues.specs.Changes.{Enlists, Relists, Refills}
@@ -30,7 +30,7 @@ module _ {L B O E : Type 0} (bl : Ghosts B BidRank) (ol : Ghosts O OfferRank) (e
   -- the book is in this state
   pub record Shows (m : Memory L B O E) (k : Opening) (S : State) : Type 0 where
     pub opening : opening_of m ≡ k
-    pub board : board_of m.board ≡ S.board
+    pub board : m.board ≡ S.board
     pub reserves : Reserved S.hidden S.board.orders m.reserves.items
     pub queued : Queued m S.board.orders S.board
 
@@ -61,6 +61,6 @@ module _ {L B O E : Type 0} (bl : Ghosts B BidRank) (ol : Ghosts O OfferRank) (e
   -- the lines of both sides are filled again, by the ranks on the board
   pub record Reranked (m m' : Memory L B O E) : Type 0 where
     pub same : Same m m'
-    pub bids : Refills bid_ahead (on Bid) bid_entry bl m.bids m'.bids (board_of m.board)
-    pub offers : Refills offer_ahead (on Offer) offer_entry ol m.offers m'.offers (board_of m.board)
+    pub bids : Refills bid_ahead (on Bid) bid_entry bl m.bids m'.bids m.board
+    pub offers : Refills offer_ahead (on Offer) offer_entry ol m.offers m'.offers m.board
     pub ends : m'.ends ≡ m.ends

@@ -1,6 +1,5 @@
 //! What an order has in the three lines.
 ghost use Rattle.std.specs.Prelude.{◌≡◌};
-ghost use Rattle.board.specs.Memory.{board_of};
 ghost use Rattle.memory.specs.Entries.{entries_of, no_entries, afterwards};
 
 use board::board::Board;
@@ -19,7 +18,7 @@ pub struct Entries {
 impl Entries {
     /// What an order has on the board.
     pub fn of(board: &Board, order: &Order) -> Entries
-        ensures { result ≡ entries_of (board_of board.now) order.now }
+        ensures { result ≡ entries_of board.now order.now }
     {
         Entries {
             bid: BidRank::of(board, order),
@@ -41,7 +40,7 @@ impl Entries {
 
     /// What is left of an order has.
     pub fn after(board: &Board, left: &Option<Order>) -> Entries
-        ensures { result ≡ afterwards (board_of board.now) left.now }
+        ensures { result ≡ afterwards board.now left.now }
     {
         match left {
             Some(order) => Entries::of(board, order),

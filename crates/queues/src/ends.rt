@@ -3,7 +3,6 @@ ghost use Rattle.std.specs.Prelude.{◌≡◌};
 ghost use Rattle.market.specs.Ranks.{end_ahead};
 ghost use Rattle.rules.specs.Draws.{expiring};
 ghost use Rattle.board.specs.EndTimes.{end_time};
-ghost use Rattle.board.specs.Memory.{board_of};
 ghost use Rattle.queues.specs.Lists.{InStep};
 ghost use Rattle.queues.specs.Walks.{ending_by};
 
@@ -27,7 +26,7 @@ fn ending(orders: &[Order], first: Option<EndTime>, wished: u64) -> Option<(Orde
 
 /// The first order to end by the wished time, and when it ends.
 pub fn first_ending<L: Line<EndTime>>(board: &Board, line: &L, wished: u64) -> Option<(Order, u64)>
-    ensures { InStep end_ahead (λ b. end_time) L.Line line.now (board_of board.now) → result ≡ expiring wished (board_of board.now).orders }
+    ensures { InStep end_ahead (λ b. end_time) L.Line line.now board.now → result ≡ expiring wished board.now.orders }
 {
     ending(&board.orders, line.first(), wished)
 }

@@ -4,7 +4,6 @@ ghost use Rattle.rules.specs.Base.{first};
 ghost use Rattle.rules.specs.Board.{on, meet};
 ghost use Rattle.rules.specs.Standings.{ahead};
 ghost use Rattle.rules.specs.Entitlement.{first_entitled};
-ghost use Rattle.board.specs.Memory.{board_of};
 ghost use Rattle.board.specs.Entitlements.{allowed};
 ghost use Rattle.queues.specs.Lists.{InStep};
 ghost use Rattle.queues.specs.Walks.{order_of, choice, walk};
@@ -28,7 +27,7 @@ fn order_of<T: OfOrder + Copy>(orders: &[Order], entry: Option<T>) -> Option<Ord
 
 /// The first by rank of the side's orders.
 pub fn first_order<T: Ranked, L: Line<T>>(board: &Board, line: &L) -> Option<Order>
-    ensures { InStep T.Entry.ahead T.Listed.listing L.Line line.now (board_of board.now) → result ≡ first (on T.Ranked.side) (ahead (board_of board.now)) (board_of board.now).orders }
+    ensures { InStep T.Entry.ahead T.Listed.listing L.Line line.now board.now → result ≡ first (on T.Ranked.side) (ahead board.now) board.now.orders }
 {
     order_of(&board.orders, line.first())
 }
@@ -57,7 +56,7 @@ fn first_allowed<T: Ranked, L: Line<T>>(
 
 /// The first by rank of the side's entitled orders; `meets` tells whether prices meet.
 pub fn first_entitled<T: Ranked, L: Line<T>>(board: &Board, line: &L, meets: bool) -> Option<Order>
-    ensures { InStep T.Entry.ahead T.Listed.listing L.Line line.now (board_of board.now) → meets ≡ meet (board_of board.now).orders → result ≡ first_entitled (board_of board.now) T.Ranked.side }
+    ensures { InStep T.Entry.ahead T.Listed.listing L.Line line.now board.now → meets ≡ meet board.now.orders → result ≡ first_entitled board.now T.Ranked.side }
 {
     let entitlement = Entitlement::new(board, meets, best_price(line));
     first_allowed(&board.orders, &entitlement, line)

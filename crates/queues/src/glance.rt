@@ -2,7 +2,6 @@
 ghost use Rattle.std.specs.Prelude.{◌≡◌};
 ghost use Rattle.rules.specs.Base.{eq_z};
 ghost use Rattle.rules.specs.Summaries.{summary};
-ghost use Rattle.board.specs.Memory.{board_of};
 ghost use Rattle.queues.specs.Lists.{InStep};
 ghost use Rattle.queues.specs.Walks.{shown_at, displayed_by};
 
@@ -46,7 +45,7 @@ fn displayed_at<T: Ranked, L: Line<T>>(orders: &[Order], line: &L, price: i32) -
 
 /// The side's best price, and the displayed total of the first eight orders there.
 pub fn summarize<T: Ranked, L: Line<T>>(board: &Board, line: &L) -> Option<Summary>
-    ensures { InStep T.Entry.ahead T.Listed.listing L.Line line.now (board_of board.now) → result ≡ summary (board_of board.now) T.Ranked.side }
+    ensures { InStep T.Entry.ahead T.Listed.listing L.Line line.now board.now → result ≡ summary board.now T.Ranked.side }
 {
     let price = best_price(line)?;
     let size = displayed_at(&board.orders, line, price);

@@ -4,7 +4,6 @@ ghost use Rattle.market.specs.declared.order.Order.{Order};
 ghost use Rattle.rules.specs.Base.{count};
 ghost use Rattle.rules.specs.Board.{Board as Rules};
 ghost use Rattle.rules.specs.Rising.{Ascends};
-ghost use Rattle.board.specs.Memory.{board_of};
 ghost use Rattle.queues.specs.Lists.{Lists};
 ghost use Rattle.queues.specs.Changes.{added, taken, room_answer, Enlists, Unlists, Relists, Refills};
 
@@ -57,7 +56,7 @@ pub fn relist<T: Listed, L: Line<T>>(line: &mut L, old: Option<T>, new: Option<T
 
 /// Lists the orders of the board, whatever the line held: empties it, and puts in the entries of all.
 pub fn refill<T: Listed, L: Line<T>>(line: &mut L, board: &Board)
-    ensures { Refills T.Entry.ahead T.Listed.mine T.Listed.listing L.Line line.old line.new (board_of board.now) }
+    ensures { Refills T.Entry.ahead T.Listed.mine T.Listed.listing L.Line line.old line.new board.now }
 {
     line.clear();
     let orders = board.orders.as_slice();

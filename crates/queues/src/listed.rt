@@ -3,7 +3,6 @@ ghost use Rattle.std.specs.Prelude.{◌≡◌, Bool, Some, Option};
 ghost use Rattle.market.specs.declared.order.Order.{Order};
 ghost use Rattle.rules.specs.Base.{is_some};
 ghost use Rattle.rules.specs.Board.{Board as Rules};
-ghost use Rattle.board.specs.Memory.{board_of};
 
 use board::board::Board;
 use line::entry::Entry;
@@ -20,7 +19,7 @@ pub trait Listed: Entry + OfOrder {
 
     /// The entry of `order` on the board, if it has one.
     fn of(board: &Board, order: &Order) -> Option<Self>
-        ensures { result ≡ listing (board_of board.now) order.now };
+        ensures { result ≡ listing board.now order.now };
 
     // Those orders and no others.
     ghost has: { (b : Rules) (o : Order) → is_some (listing b o) ≡ mine o };

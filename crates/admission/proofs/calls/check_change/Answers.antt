@@ -8,7 +8,6 @@ use Rattle.market.specs.declared.refusal.Refusal.TheVariants.{Book}
 use Rattle.rules.specs.Base.{Fails}
 use Rattle.rules.specs.Board.{Opening, Board, in_session, better}
 use Rattle.rules.specs.Refusing.{is_trader, is_price, is_size, own_meets, owned, change_tests, change_of, change_refusal}
-use Rattle.board.specs.Memory.{board_of}
 use Rattle.admission.proofs.Refused.{passed, failed, passed-at, failed-at, Upto, upto, none_left, found, missing, finds}
 use Rattle.admission.proofs.calls.check_change.Goals as goal
 
@@ -29,7 +28,7 @@ so k b x o P e h = subst (λ (r : Option Order). P (change_of r k b x (is_size k
 pub returns-in_err-check_quiet : goal.returns-in_err-check_quiet
 unfolding change_refusal change_tests
 returns-in_err-check_quiet c = λ k e.
-    let b = board_of c.args.board.now in
+    let b = c.args.board.now in
     let x = c.args.change.now in
     let f = failed _ _ c.in_err-check_quiet.ensures in
     finds _ _ c.from_residual.ensures.1
@@ -38,7 +37,7 @@ returns-in_err-check_quiet c = λ k e.
 pub returns-in_err-check_trader : goal.returns-in_err-check_trader
 unfolding change_refusal change_tests
 returns-in_err-check_trader c = λ k e.
-    let b = board_of c.args.board.now in
+    let b = c.args.board.now in
     let x = c.args.change.now in
     let quiet = passed _ _ c.in_ok-check_quiet.ensures in
     let f = failed _ _ c.in_err-check_trader.ensures in
@@ -48,7 +47,7 @@ returns-in_err-check_trader c = λ k e.
 pub returns-in_err-order : goal.returns-in_err-order
 unfolding change_refusal change_tests
 returns-in_err-order c = λ k e.
-    let b = board_of c.args.board.now in
+    let b = c.args.board.now in
     let x = c.args.change.now in
     let quiet = passed _ _ c.in_ok-check_quiet.ensures in
     let trader = passed _ _ c.in_ok-check_trader.ensures in
@@ -59,7 +58,7 @@ returns-in_err-order c = λ k e.
 pub returns-in_err-check_price : goal.returns-in_err-check_price
 unfolding change_refusal change_tests
 returns-in_err-check_price c = λ k e.
-    let b = board_of c.args.board.now in
+    let b = c.args.board.now in
     let x = c.args.change.now in
     let fits : SFits w32 x.price = search rules in
     let quiet = passed _ _ c.in_ok-check_quiet.ensures in
@@ -72,7 +71,7 @@ returns-in_err-check_price c = λ k e.
 pub returns-in_err-check_sizes : goal.returns-in_err-check_sizes
 unfolding change_refusal change_tests
 returns-in_err-check_sizes c = λ k e.
-    let b = board_of c.args.board.now in
+    let b = c.args.board.now in
     let x = c.args.change.now in
     let fits : SFits w32 x.price = search rules in
     let quiet = passed _ _ c.in_ok-check_quiet.ensures in
@@ -86,7 +85,7 @@ returns-in_err-check_sizes c = λ k e.
 pub returns-in_err-check_better : goal.returns-in_err-check_better
 unfolding change_refusal change_tests
 returns-in_err-check_better c = λ k e.
-    let b = board_of c.args.board.now in
+    let b = c.args.board.now in
     let x = c.args.change.now in
     let fits : SFits w32 x.price = search rules in
     let quiet = passed _ _ c.in_ok-check_quiet.ensures in
@@ -101,7 +100,7 @@ returns-in_err-check_better c = λ k e.
 pub returns-in_err-check_own : goal.returns-in_err-check_own
 unfolding change_refusal change_tests
 returns-in_err-check_own c = λ k e.
-    let b = board_of c.args.board.now in
+    let b = c.args.board.now in
     let x = c.args.change.now in
     let fits : SFits w32 x.price = search rules in
     let quiet = passed _ _ c.in_ok-check_quiet.ensures in
@@ -117,7 +116,7 @@ returns-in_err-check_own c = λ k e.
 pub returns-in_err-check_writes : goal.returns-in_err-check_writes
 unfolding change_refusal change_tests
 returns-in_err-check_writes c = λ k e.
-    let b = board_of c.args.board.now in
+    let b = c.args.board.now in
     let x = c.args.change.now in
     let fits : SFits w32 x.price = search rules in
     let quiet = passed _ _ c.in_ok-check_quiet.ensures in
@@ -134,7 +133,7 @@ returns-in_err-check_writes c = λ k e.
 pub returns : goal.returns
 unfolding change_refusal change_tests
 returns c = λ k e.
-    let b = board_of c.args.board.now in
+    let b = c.args.board.now in
     let x = c.args.change.now in
     let fits : SFits w32 x.price = search rules in
     let quiet = passed _ _ c.in_ok-check_quiet.ensures in

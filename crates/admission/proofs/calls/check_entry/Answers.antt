@@ -2,14 +2,13 @@ use Rattle.std.proofs.Common.{not, sym, ap, ◌∙◌, w32, SFits, rules}
 use Rattle.std.proofs.lemmas.Int.{to_z-of_z}
 use Rattle.market.specs.declared.refusal.Refusal.TheVariants.{Book, Line}
 use Rattle.rules.specs.Refusing.{is_price, is_size, own_meets, entry_price, entry_tests, entry_refusal}
-use Rattle.board.specs.Memory.{board_of}
 use Rattle.admission.proofs.Refused.{passed, failed, passed-at, failed-at, upto, none_left, answers}
 use Rattle.admission.proofs.calls.check_entry.Goals as goal
 
 pub returns-in_err-check_quiet : goal.returns-in_err-check_quiet
 unfolding entry_refusal entry_tests
 returns-in_err-check_quiet c = λ k e l.
-    let b = board_of c.args.board.now in
+    let b = c.args.board.now in
     let x = c.args.order.now in
     let f = failed _ _ c.in_err-check_quiet.ensures in
     answers _ c.from_residual.ensures.1
@@ -18,7 +17,7 @@ returns-in_err-check_quiet c = λ k e l.
 pub returns-in_err-check_trader : goal.returns-in_err-check_trader
 unfolding entry_refusal entry_tests
 returns-in_err-check_trader c = λ k e l.
-    let b = board_of c.args.board.now in
+    let b = c.args.board.now in
     let x = c.args.order.now in
     let quiet = passed _ _ c.in_ok-check_quiet.ensures in
     let f = failed _ _ c.in_err-check_trader.ensures in
@@ -28,7 +27,7 @@ returns-in_err-check_trader c = λ k e l.
 pub returns-in_err-check_price : goal.returns-in_err-check_price
 unfolding entry_refusal entry_tests
 returns-in_err-check_price c = λ k e l.
-    let b = board_of c.args.board.now in
+    let b = c.args.board.now in
     let x = c.args.order.now in
     let fits : SFits w32 x.price = search rules in
     let quiet = passed _ _ c.in_ok-check_quiet.ensures in
@@ -40,7 +39,7 @@ returns-in_err-check_price c = λ k e l.
 pub returns-in_err-check_sizes : goal.returns-in_err-check_sizes
 unfolding entry_refusal entry_tests
 returns-in_err-check_sizes c = λ k e l.
-    let b = board_of c.args.board.now in
+    let b = c.args.board.now in
     let x = c.args.order.now in
     let fits : SFits w32 x.price = search rules in
     let quiet = passed _ _ c.in_ok-check_quiet.ensures in
@@ -53,7 +52,7 @@ returns-in_err-check_sizes c = λ k e l.
 pub returns-in_err-check_end : goal.returns-in_err-check_end
 unfolding entry_refusal entry_tests
 returns-in_err-check_end c = λ k e l.
-    let b = board_of c.args.board.now in
+    let b = c.args.board.now in
     let x = c.args.order.now in
     let fits : SFits w32 x.price = search rules in
     let quiet = passed _ _ c.in_ok-check_quiet.ensures in
@@ -67,7 +66,7 @@ returns-in_err-check_end c = λ k e l.
 pub returns-in_err-check_own : goal.returns-in_err-check_own
 unfolding entry_refusal entry_tests
 returns-in_err-check_own c = λ k e l.
-    let b = board_of c.args.board.now in
+    let b = c.args.board.now in
     let x = c.args.order.now in
     let fits : SFits w32 x.price = search rules in
     let fits' : SFits w32 c.entry_price-price.result = search rules in
@@ -84,7 +83,7 @@ returns-in_err-check_own c = λ k e l.
 pub returns-in_err-check_writes : goal.returns-in_err-check_writes
 unfolding entry_refusal entry_tests
 returns-in_err-check_writes c = λ k e l.
-    let b = board_of c.args.board.now in
+    let b = c.args.board.now in
     let x = c.args.order.now in
     let fits : SFits w32 x.price = search rules in
     let fits' : SFits w32 c.entry_price-price.result = search rules in
@@ -102,7 +101,7 @@ returns-in_err-check_writes c = λ k e l.
 pub returns-in_err-check_orders : goal.returns-in_err-check_orders
 unfolding entry_refusal entry_tests
 returns-in_err-check_orders c = λ k e l.
-    let b = board_of c.args.board.now in
+    let b = c.args.board.now in
     let x = c.args.order.now in
     let fits : SFits w32 x.price = search rules in
     let fits' : SFits w32 c.entry_price-price.result = search rules in
@@ -121,7 +120,7 @@ returns-in_err-check_orders c = λ k e l.
 pub returns-in_err-refused_if : goal.returns-in_err-refused_if
 unfolding entry_refusal entry_tests
 returns-in_err-refused_if c = λ k e l.
-    let b = board_of c.args.board.now in
+    let b = c.args.board.now in
     let x = c.args.order.now in
     let fits : SFits w32 x.price = search rules in
     let fits' : SFits w32 c.entry_price-price.result = search rules in
@@ -141,7 +140,7 @@ returns-in_err-refused_if c = λ k e l.
 pub returns : goal.returns
 unfolding entry_refusal entry_tests
 returns c = λ k e l.
-    let b = board_of c.args.board.now in
+    let b = c.args.board.now in
     let x = c.args.order.now in
     let fits : SFits w32 x.price = search rules in
     let fits' : SFits w32 c.entry_price-price.result = search rules in

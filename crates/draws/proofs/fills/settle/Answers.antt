@@ -18,13 +18,13 @@ use Rattle.draws.proofs.fills.settle.Goals as goal
 
 pub returns : goal.returns
 unfolding remainder_of settled_board
-returns c k m h room a i e =
-    let b = board_of c.args.board.now in
+returns c = rw (← c.board.view_is) (λ k m h room a i e.
+    let b = board_of c.board.inside in
     let o = c.args.order.now in
     let n = o.number in
     let size = c.args.size in
     let fill = c.args.fill in
-    let os = c.args.board.now.orders.items in
+    let os = b.orders in
     let stamp = b.counters.stamp in
     let f = remainder_of h size o in
     let rs = each (reserve_of h) os in
@@ -56,7 +56,7 @@ returns c k m h room a i e =
     let completion : Completion = record { fill = fill; number = b.counters.number } in
     record {
       board =
-          same-board orders (ap counters (c.stamp_after-board.ensures room ∙ ap (λ g. stamp_after g stamp) is)) refl
+          same-board orders (ap counters (c.stamp_after-board-inside.ensures room ∙ ap (λ g. stamp_after g stamp) is)) refl
           (c.note_completion.ensures ∙
           ap (λ g. completions_after g c.in_session-session.result o.trader o.side completion b.completions) is ∙
           ap (λ t. completions_after f t o.trader o.side completion b.completions) c.in_session-session.ensures)
@@ -64,4 +64,4 @@ returns c k m h room a i e =
       order = after;
       reserves = ap (each (reserve_of (drawn_from h o f))) orders ∙
           reserves-left h f stamp (in_session b.phase) fill size o k m os a ∙ sym reserves;
-    }
+    })

@@ -5,4 +5,4 @@ use Rattle.draws.proofs.phases.rest.Goals as goal
 
 pub returns : goal.returns
 unfolding rested_board
-returns c = same-board refl refl c.settle_session.ensures refl refl
+returns c = rw (← c.board.view_is) (same-board refl refl c.settle_session.ensures refl refl)

@@ -23,7 +23,7 @@ pub returns : goal.returns
 unfolding turned_board
 returns c =
     let t = c.args.time in
-    let b = board_of c.settle_privileges.new.board in
-    ap (λ k. entering t c.phase_after-board.result k b) c.reach.ensures ∙
-    ap (λ p. entering t p (reaching t b.clock) b) c.phase_after-board.ensures ∙
-    ap (λ b. entering t (phase_after b.phase) (reaching t b.clock) b) c.settle_privileges.ensures
+    let b = board_of c.board.inside in
+    ap (λ k. entering t c.phase_after-board-inside.result k b) c.reach.ensures ∙
+    ap (λ p. entering t p (reaching t b.clock) b) c.phase_after-board-inside.ensures ∙
+    ap (λ b. entering t (phase_after b.phase) (reaching t b.clock) b) (c.board.view_is ∙ c.settle_privileges.ensures)

@@ -14,10 +14,10 @@ first_goes b s os r x w e f h = sym w ∙ h ∙ ap (λ t. find (λ o. must_go t 
 
 pub returns-in_err-order : goal.returns-in_err-order
 returns-in_err-order c =
-    c.from_residual.ensures ∙
-    ap with_cause (first_goes (board_of c.args.board.now) c.in_session.result c.deref.result.now c.first_to_go.result _ c.in_err-order.was c.in_session.ensures c.deref.ensures.0 c.first_to_go.ensures)
+    rw (← c.board.view_is) (c.from_residual.ensures ∙
+    ap with_cause (first_goes (board_of c.board.inside) c.in_session.result c.deref.result.now c.first_to_go.result _ c.in_err-order.was c.in_session.ensures c.deref.ensures.0 c.first_to_go.ensures))
 
 pub returns : goal.returns
 returns c =
-    ap (λ (w : Cause). Some (c.in_ok-order.order, w)) c.cause_of.ensures ∙
-    ap with_cause (first_goes (board_of c.args.board.now) c.in_session.result c.deref.result.now c.first_to_go.result _ c.in_ok-order.was c.in_session.ensures c.deref.ensures.0 c.first_to_go.ensures)
+    rw (← c.board.view_is) (ap (λ (w : Cause). Some (c.in_ok-order.order, w)) c.cause_of.ensures ∙
+    ap with_cause (first_goes (board_of c.board.inside) c.in_session.result c.deref.result.now c.first_to_go.result _ c.in_ok-order.was c.in_session.ensures c.deref.ensures.0 c.first_to_go.ensures))

@@ -10,6 +10,6 @@ unfolding begun_board
 returns c =
     let fits : SFits w32 c.args.passive.now.price = search rules in
     let p = to_z-of_z w32 c.args.passive.now.price fits in
-    same-board
-    (c.start_orders.ensures ∙ ap (λ q. each (started c.args.trigger.now.number c.args.passive.now.side q) c.args.board.now.orders.items) p)
-    refl (rw p) c.new-board.ensures c.clear.ensures
+    rw (← c.board.view_is) (same-board
+    (c.start_orders.ensures ∙ ap (λ q. each (started c.args.trigger.now.number c.args.passive.now.side q) c.board.inside.orders.items) p)
+    refl (rw p) c.new-board-inside.ensures c.clear.ensures)

@@ -18,8 +18,8 @@ use Rattle.effects.proofs.effects.change.Goals as goal
 
 pub returns : goal.returns
 returns c =
-    let b = board_of c.args.board.now in
-    let x = board_of c.forfeit.new.board in
+    let b = board_of c.board.inside in
+    let x = board_of c.board-2.inside in
     let d = c.args.change.now in
     let o = c.args.order.now in
     let n = o.number in
@@ -35,9 +35,9 @@ returns c =
     let placed : (k m : ℕ) → Ascends k m os → written ≡ replace n (Some after) os =
     λ k m a. c.put.ensures ∙ ap (λ (r : Option ℕ). put_at r (Some after) os) at ∙ put-position n (Some after) k m os a in
     let forfeited : x ≡ forfeited_board (with_orders written b) o d.price =
-    c.forfeit.ensures ∙ ap (forfeited_board (with_orders written b) o) (to_z-of_z w32 d.price fits) in
+    c.board-2.view_is ∙ c.forfeit.ensures ∙ ap (forfeited_board (with_orders written b) o) (to_z-of_z w32 d.price fits) in
     let same : x.counters ≡ b.counters = ap (λ (y : Board). y.counters) forfeited in
-    record {
+    rw (← c.board.view_is) (record {
       order = is;
       board = λ k m bounds a.
           let more = one_more s 18446744073709551615 c.saturating_add.ensures (omega (arith, bounds.stamp)) in
@@ -51,4 +51,4 @@ returns c =
           reserves-put n d.reserve h (Some after) k m os (ap (λ (p : Order). p.number) is ∙ changed-number d (takes_stamp d o) s o) a ∙
           ap (put_at (position_of n os) (Some d.reserve)) e ∙
           sym (c.put-2.ensures ∙ ap (λ (r : Option ℕ). put_at r (Some d.reserve) rs) at);
-    }
+    })

@@ -5,4 +5,4 @@ use Rattle.effects.proofs.effects.tick.Goals as goal
 
 pub returns : goal.returns
 unfolding ticked_board
-returns c = same-board refl c.await_draws.ensures refl refl refl refl
+returns c = rw (← c.board.view_is) (same-board refl c.await_draws.ensures refl refl refl refl)

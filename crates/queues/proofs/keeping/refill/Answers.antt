@@ -2,20 +2,20 @@ use Rattle.std.proofs.Common.{List, [], refl, ap, ◌∙◌}
 use Rattle.line.specs.Order.{Order as TotalOrder}
 use Rattle.market.specs.declared.order.Order.{Order}
 use Rattle.rules.specs.Base.{each}
-use Rattle.board.specs.Memory.{board_of}
+use Rattle.rules.specs.Board.{Board}
 use Rattle.queues.specs.Changes.{filled}
 use Rattle.queues.proofs.Kept.{filled_more, filled-all, refills}
 use Rattle.queues.proofs.keeping.refill.Goals as goal
 
 pub loop-order-init : goal.loop-order-init
 loop-order-init g c =
-    let e = g.T.Listed.listing (board_of c.args.board.now) in
+    let e = g.T.Listed.listing c.args.board.now in
     let room = g.L.Line.room c.clear.new.self in
     (refl, ap (λ (xs : List _). filled g.T.Entry.ahead room (each e c.as_slice-orders.result.now) xs) c.clear.ensures.entries)
 
 pub loop-order-preserved : goal.loop-order-preserved
 loop-order-preserved g c =
-    let e = g.T.Listed.listing (board_of c.args.board.now) in
+    let e = g.T.Listed.listing c.args.board.now in
     let inv = c.loop-order.invariant in
     let p = c.put_entry.ensures in (
       p.room ∙ inv.0,
@@ -26,7 +26,7 @@ loop-order-preserved g c =
 pub returns : goal.returns
 returns g c =
     let t : TotalOrder g.T.Entry.ahead = record { irreflexive = g.met.T.Entry.irreflexive; total = g.met.T.Entry.total; transitive = g.met.T.Entry.transitive } in
-    let b = board_of c.args.board.now in
+    let b = c.args.board.now in
     let e = g.T.Listed.listing b in
     let inv = c.loop-order.invariant in
     let os = c.as_slice-orders.result.now in
@@ -35,4 +35,4 @@ returns g c =
     (inv.0 ∙ r)
     (filled-all g.T.Entry.ahead e (g.L.Line.room c.clear.new.self) os c.loop-order.order-index (g.L.Line.entries c.loop-order.line) _ c.loop-order-test.false inv.1 ∙
     ap (λ n. filled g.T.Entry.ahead n (each e os) []) r ∙
-    ap (λ (ps : List Order). filled g.T.Entry.ahead (g.L.Line.room c.args.line.now) (each e ps) []) c.as_slice-orders.ensures.value)
+    ap (λ (ps : List Order). filled g.T.Entry.ahead (g.L.Line.room c.args.line.now) (each e ps) []) (c.as_slice-orders.ensures.value ∙ ap (λ (x : Board). x.orders) c.board.view_is))

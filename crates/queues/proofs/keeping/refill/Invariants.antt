@@ -1,6 +1,5 @@
 use Rattle.std.proofs.Common.{◌≡◌, [], drop}
 use Rattle.rules.specs.Base.{each}
-use Rattle.board.specs.Memory.{board_of}
 use Rattle.queues.specs.Changes.{filled}
 use Rattle.queues.proofs.keeping.refill.Given as goal
 
@@ -8,6 +7,6 @@ use Rattle.queues.proofs.keeping.refill.Given as goal
 abbrev pub invariant-loop-order : goal.invariant-loop-order
 invariant-loop-order g l =
     let fill = filled g.T.Entry.ahead (g.L.Line.room l.initial.line) in
-    let e = g.T.Listed.listing (board_of l.board) in
+    let e = g.T.Listed.listing l.board in
     (g.L.Line.room l.line ≡ g.L.Line.room l.initial.line) ×
     (fill (each e (drop l.order-index l.orders)) (g.L.Line.entries l.line) ≡ fill (each e l.orders) [])

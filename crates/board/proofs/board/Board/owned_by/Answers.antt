@@ -12,6 +12,7 @@ test t n o = numbered n o && eqb o.trader t
 pub returns : goal.returns
 unfolding owned
 returns c =
+    rw (← c.self.view_is) (
     c.copied.ensures ∙
-    finds (test c.args.trader c.args.number) _ _ c.args.self.now.orders.items (c.iter.ensures.rest ∙ c.deref.ensures.0) c.find.ensures.ran
-    (λ x q k. search (rules, tests)) (λ x q k. search (rules, tests))
+    finds (test c.args.trader c.args.number) _ _ c.self.inside.orders.items (c.iter.ensures.rest ∙ c.deref.ensures.0) c.find.ensures.ran
+    (λ x q k. search (rules, tests)) (λ x q k. search (rules, tests)))
