@@ -4,7 +4,7 @@ use std::process::Abort;
 use std::test::Fail;
 
 /// The message layer refuses with this number and this byte, and no byte is taken.
-pub fn refused<M: Drop>(
+pub(crate) fn refused<M: Drop>(
     rt: &impl Abort,
     read: (Result<M, Refusal>, usize),
     number: u8,
@@ -24,7 +24,7 @@ pub fn refused<M: Drop>(
 }
 
 /// The bytes are one message, and writing it gives them again and leaves what stands behind them; a byte less of room is too little.
-pub fn exact<M: Drop, W: Fn(&M, &mut [u8]) -> Result<usize, Refusal> + Drop>(
+pub(crate) fn exact<M: Drop, W: Fn(&M, &mut [u8]) -> Result<usize, Refusal> + Drop>(
     rt: &impl Abort,
     bytes: &[u8],
     read: (Result<M, Refusal>, usize),
