@@ -5,7 +5,7 @@ use Rattle.rules.specs.Base.{each}
 use Rattle.rules.specs.Board.{Board as Rules}
 use Rattle.board.specs.declared.board.Board.TheInside.{Inside}
 
--- the board of the rules that it shows
+-- the board of the rules that its fields show
 abbrev pub board_of : Inside → Rules
 board_of m =
     record {

@@ -6,7 +6,7 @@ use market::order::Order;
 use market::state::{Clock, Completion, Counters, Phase, Session};
 use std::marker::Model;
 
-/// The live orders by ascending number, and what else everybody may know.
+/// The live orders by ascending number, and what else everybody may know. A clause sees the board of the rules.
 #[derive(Drop)]
 pub struct Board {
     pub orders: ArrayVec<Order, 128>,

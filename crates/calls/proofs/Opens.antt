@@ -2,8 +2,7 @@
 use Rattle.std.proofs.Common.{◌≡◌, ℕ, [], sym, ap, ◌∙◌}
 use Rattle.line.specs.declared.lines.Line.{Ghosts}
 use Rattle.market.specs.declared.settings.Settings.{Settings}
-use Rattle.market.specs.Ranks.{BidRank, OfferRank, bid_ahead, offer_ahead, end_ahead}
-use Rattle.market.specs.declared.order.Order.{Order}
+use Rattle.market.specs.Ranks.{BidRank, OfferRank}
 use Rattle.market.specs.declared.rank.EndTime.{EndTime}
 use Rattle.rules.specs.Base.{each}
 use Rattle.rules.specs.Board.{Opening}
