@@ -4,8 +4,8 @@ use Rattle.std.specs.List.{filter}
 use Rattle.std.proofs.lemmas.Bool.{and_parts}
 use Rattle.line.specs.Order.{Order as TotalOrder}
 use Rattle.line.specs.Held.{Ordered, leads, in_order, behind, first_of}
+use Rattle.queues.specs.Walking.{with_behind}
 use Rattle.rules.proofs.Tests.{some_inj, none≢some}
-use Rattle.queues.specs.Walking.{left_from}
 
 module _ {X : Type 0} {ahead : X → X → Bool} (t : TotalOrder ahead) where
   -- an entry that leads a list is ahead of all of it
@@ -23,7 +23,7 @@ module _ {X : Type 0} {ahead : X → X → Bool} (t : TotalOrder ahead) where
       ap (λ (b : Bool). cond b (z ∷ filter (ahead x) ys) (filter (ahead x) ys)) (t.transitive x y z e q.0) ∙ ap (λ (zs : List X). z ∷ zs) (further x y e ys q.1)
 
   -- from the first entry on, all are left
-  pub from-first : (xs : List X) → Ordered ahead xs → left_from ahead (first_of xs) xs ≡ xs
+  pub from-first : (xs : List X) → Ordered ahead xs → with_behind ahead (first_of xs) xs ≡ xs
   from-first [] h = refl
   from-first (x ∷ xs) h =
       ap (λ (b : Bool). x ∷ cond b (x ∷ filter (ahead x) xs) (filter (ahead x) xs)) (t.irreflexive x) ∙
@@ -46,16 +46,16 @@ module _ {X : Type 0} {ahead : X → X → Bool} (t : TotalOrder ahead) where
       go true p = sym (t.transitive y z y h p) ∙ t.irreflexive y
 
   -- what stands before an entry is not left
-  later : (y : X) (ys : List X) (o : Option X) → ((z : X) → o ≡ Some z → ahead y z ≡ true) → left_from ahead o ys ≡ left_from ahead o (y ∷ ys)
+  later : (y : X) (ys : List X) (o : Option X) → ((z : X) → o ≡ Some z → ahead y z ≡ true) → with_behind ahead o ys ≡ with_behind ahead o (y ∷ ys)
   later y ys None h = refl
   later y ys (Some z) h = sym (ap (λ (b : Bool). z ∷ cond b (y ∷ filter (ahead z) ys) (filter (ahead z) ys)) (back y z (h z refl)))
 
   -- behind an entry are left the next and those behind it
-  pub onwards : (x : X) (xs : List X) → Ordered ahead xs → filter (ahead x) xs ≡ left_from ahead (behind ahead x xs) xs
+  pub onwards : (x : X) (xs : List X) → Ordered ahead xs → filter (ahead x) xs ≡ with_behind ahead (behind ahead x xs) xs
   onwards x [] h = refl
   onwards x (y ∷ ys) h = go (onwards x ys (and_parts (leads ahead y ys) (in_order ahead ys) h).1) (ahead x y) refl
     where
-      go : filter (ahead x) ys ≡ left_from ahead (behind ahead x ys) ys → (b : Bool) → ahead x y ≡ b → cond b (y ∷ filter (ahead x) ys) (filter (ahead x) ys) ≡ left_from ahead (cond b (Some y) (behind ahead x ys)) (y ∷ ys)
+      go : filter (ahead x) ys ≡ with_behind ahead (behind ahead x ys) ys → (b : Bool) → ahead x y ≡ b → cond b (y ∷ filter (ahead x) ys) (filter (ahead x) ys) ≡ with_behind ahead (cond b (Some y) (behind ahead x ys)) (y ∷ ys)
       go more true e =
           ap (λ (zs : List X). y ∷ zs) (further x y e ys (and_parts (leads ahead y ys) (in_order ahead ys) h).0) ∙ sym (from-first (y ∷ ys) h)
       go more false e = more ∙ later y ys (behind ahead x ys) (led x y ys (and_parts (leads ahead y ys) (in_order ahead ys) h).0)

@@ -6,7 +6,7 @@ use Rattle.std.proofs.lemmas.Iterator.Consumers.{YieldsList-at, YieldsList-from_
 use Rattle.std.proofs.lemmas.Iterator.Search.{YieldsList-from_take_while}
 use Rattle.rules.specs.Base.{eq_z}
 use Rattle.queues.specs.declared.walking.Along.{Along}
-use Rattle.queues.specs.Walking.{left_from}
+use Rattle.queues.specs.Walking.{left_after}
 use Rattle.queues.specs.Walks.{displayed_by}
 use Rattle.queues.proofs.Summed.{first_at, summed, few}
 use Rattle.queues.proofs.glance.displayed_at.Goals as goal
@@ -14,7 +14,7 @@ use Rattle.queues.proofs.glance.displayed_at.Goals as goal
 pub sum-requires-clause-fits : goal.sum-requires-clause-fits
 sum-requires-clause-fits g c =
     let xs = g.L.Line.entries c.args.line.now in
-    let rest = λ (s : Along g.row.T.Denot g.row.L.Denot). left_from g.T.Entry.ahead s.at (g.L.Line.entries s.line.now) in
+    let rest = λ (s : Along g.row.T.Denot g.row.L.Denot). left_after g.T.Entry.ahead s.last (g.L.Line.entries s.line.now) in
     let test = λ (x : g.row.T.Denot). eq_z (g.T.Ranked.price x) c.args.price in
     let along = YieldsList-from_first (λ x. x) rest xs c.new.ensures in
     let taken = YieldsList-from_take 8 (YieldsList-at c.take.ensures.source along) c.take.ensures.count in
@@ -25,7 +25,7 @@ sum-requires-clause-fits g c =
 pub returns : goal.returns
 returns g c =
     let xs = g.L.Line.entries c.args.line.now in
-    let rest = λ (s : Along g.row.T.Denot g.row.L.Denot). left_from g.T.Entry.ahead s.at (g.L.Line.entries s.line.now) in
+    let rest = λ (s : Along g.row.T.Denot g.row.L.Denot). left_after g.T.Entry.ahead s.last (g.L.Line.entries s.line.now) in
     let shown = displayed_by g.T.OfOrder.number c.args.orders.now in
     let test = λ (x : g.row.T.Denot). eq_z (g.T.Ranked.price x) c.args.price in
     let along = YieldsList-from_first (λ x. x) rest xs c.new.ensures in
