@@ -12,6 +12,7 @@ fn digit(byte: u8) -> Option<u8>
 }
 
 /// The number that decimal digits write, if it is at most `most`.
+// By hand, since `parse` takes a `+` in front, and a word here is bytes.
 fn numeral(word: &[u8], most: u64) -> Option<u64>
     ensures value { result ≡ numeral_of most word.now }
     ensures bound { IfSome result (λ n. n ≤ most) }

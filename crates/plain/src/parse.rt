@@ -25,10 +25,8 @@ fn number<'a, T: FromWord>(text: &'a [u8], name: Name) -> Result<(T, &'a [u8]), 
     ensures { followed result ≡ written_in T.written name text.now }
 {
     let (word, rest) = value(text, name)?;
-    match T::from_word(word) {
-        Some(n) => Ok((n, rest)),
-        None => Err(TextFault::Value(name)),
-    }
+    let n = T::from_word(word).ok_or(TextFault::Value(name))?;
+    Ok((n, rest))
 }
 
 /// `none`, or a time above 0.
@@ -186,8 +184,6 @@ pub fn parse<'a>(line: &'a [u8]) -> Result<Option<CallMessage<'a>>, TextFault>
     if word.is_empty() || word[0] == b'#' {
         return Ok(None);
     }
-    match call_named(word) {
-        Some(verb) => Ok(Some(call(verb, text)?)),
-        None => Err(TextFault::Call),
-    }
+    let verb = call_named(word).ok_or(TextFault::Call)?;
+    call(verb, text).map(Some)
 }

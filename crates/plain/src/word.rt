@@ -35,7 +35,7 @@ pub(crate) fn call_named(word: &[u8]) -> Option<Verb>
 fn is_blank(byte: u8) -> bool
     ensures { result ≡ blank byte }
 {
-    byte == b' ' || byte == b'\t' || byte == b'\r'
+    matches!(byte, b' ' | b'\t' | b'\r')
 }
 
 /// A text from its first word on.
