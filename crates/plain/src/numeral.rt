@@ -1,6 +1,8 @@
 //! Numbers in words.
-ghost use Rattle.std.specs.Prelude.{◌≡◌, ℕ, ◌≤◌, List, Option, IfSome};
+ghost use Rattle.std.specs.Prelude.{◌≡◌, ◌≤◌, IfSome};
 ghost use Rattle.plain.specs.Numerals.{digit_of, numeral as numeral_of, signed_of};
+
+use crate::word::FromWord;
 
 fn digit(byte: u8) -> Option<u8>
     ensures { result ≡ digit_of byte }
@@ -30,20 +32,11 @@ fn numeral(word: &[u8], most: u64) -> Option<u64>
     Some(n as u64)
 }
 
-/// A number that a word can write.
-pub(crate) trait FromWord: Sized {
-    // The number that a word writes, if it writes one of this type.
-    ghost written: { List ℕ → Option Self };
-
-    fn from_word(word: &[u8]) -> Option<Self>
-        ensures { result ≡ written word.now };
-}
-
 impl FromWord for u8 {
     ghost written = { numeral_of 255 };
 
     fn from_word(word: &[u8]) -> Option<u8> {
-        Some(numeral(word, 255)? as u8)
+        Some(numeral(word, u64::from(u8::MAX))? as u8)
     }
 }
 
@@ -51,7 +44,7 @@ impl FromWord for u32 {
     ghost written = { numeral_of 4294967295 };
 
     fn from_word(word: &[u8]) -> Option<u32> {
-        Some(numeral(word, 4_294_967_295)? as u32)
+        Some(numeral(word, u64::from(u32::MAX))? as u32)
     }
 }
 
