@@ -48,6 +48,7 @@ fn put_field(buf: &mut [u8], at: usize, field: Field)
     }
 }
 
+// The place is moved on by hand: a fold over it, whose closure writes into `buf`, is no plainer.
 fn put_fields(buf: &mut [u8], start: usize, fields: &[Field])
     requires { start + length (in_bytes fields.now) ≤ length buf.old }
     ensures { buf.new ≡ pasted buf.old start (in_bytes fields.now) }

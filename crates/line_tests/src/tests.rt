@@ -10,7 +10,7 @@ use ordered_row::ordered_row::OrderedRow;
 use std::process::Abort;
 
 /// The earlier hour is ahead, then the lower number.
-#[derive(Clone, Copy, PartialEq, Eq, Debug)]
+#[derive(Clone, Copy, PartialEq, Eq, PartialOrd, Ord, Debug)]
 struct Ticket {
     hour: u8,
     number: u8,
@@ -26,10 +26,7 @@ impl Entry for Ticket {
     ghost transitive = { Prim.search rules };
 
     fn is_ahead(&self, other: &Ticket) -> bool {
-        if self.hour != other.hour {
-            return self.hour < other.hour;
-        }
-        self.number < other.number
+        self < other
     }
 }
 

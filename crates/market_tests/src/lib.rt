@@ -13,10 +13,9 @@ mod tests {
     use std::cmp::Reverse;
 
     fn lot_of(tenor: u8) -> Option<u32> {
-        match Settings::new(tenor, 10_000, 10_000, 8_000) {
-            Ok(settings) => Some(settings.lot()),
-            Err(_) => None,
-        }
+        Settings::new(tenor, 10_000, 10_000, 8_000)
+            .ok()
+            .map(|settings| settings.lot())
     }
 
     #[test]

@@ -6,9 +6,7 @@ use Rattle.std.specs.Option.{option_map}
 use Rattle.market.specs.declared.call.OrderChange.{OrderChange}
 use Rattle.market.specs.declared.call.OrderCancel.{OrderCancel}
 use Rattle.market.specs.declared.order.Side.{Side}
-use Rattle.market.specs.declared.order.Side.TheVariants.{Bid, Offer}
 use Rattle.market.specs.declared.order.OrderType.{OrderType}
-use Rattle.market.specs.declared.order.OrderType.TheVariants.{FaS, FaK, FaKI}
 use Rattle.layout.specs.Numbers.{byte}
 use Rattle.wire_in.specs.Messages.{Message, entry, change, cancel, tick, draw, said}
 use Rattle.wire_in.specs.declared.message.CallMessage.{CallMessage}
@@ -19,7 +17,7 @@ use Rattle.plain.specs.declared.fault.Name.TheVariants.{Trader, Order, Price, Di
 use Rattle.plain.specs.declared.fault.TextFault.{TextFault}
 use Rattle.plain.specs.declared.fault.TextFault.TheVariants.{Call as NoCall, Missing, Value, Side as NoSide, OrderType as NoType, More}
 use Rattle.plain.specs.Numerals.{numeral, signed_of}
-use Rattle.plain.specs.Words.{first_word, after_word, name_of, verb_of}
+use Rattle.plain.specs.Words.{first_word, after_word, name_of, side_of, type_of, verb_of}
 
 -- a value and the text that follows it, or why there is none
 abbrev pub Parsed : Type 0 → Type 0
@@ -44,9 +42,9 @@ then (Ok p) f = f p.0 p.1
 then (Err e) f = Err e
 
 -- a word's value, and the text that follows the word
-abbrev pub worth : {X : Type 0} → Name → Option X → List ℕ → Parsed X
-worth name (Some x) rest = Ok (x, rest)
-worth name None rest = Err (Value name)
+abbrev pub worth : {X : Type 0} → TextFault → Option X → List ℕ → Parsed X
+worth fault (Some x) rest = Ok (x, rest)
+worth fault None rest = Err fault
 
 -- the word behind the name of a field
 abbrev pub value_in : Name → List ℕ → Parsed (List ℕ)
@@ -55,7 +53,7 @@ value_in name bs =
 
 -- the number behind the name of a field, as a word writes such numbers
 abbrev pub written_in : {X : Type 0} → (List ℕ → Option X) → Name → List ℕ → Parsed X
-written_in written name bs = then (value_in name bs) (λ word rest. worth name (written word) rest)
+written_in written name bs = then (value_in name bs) (λ word rest. worth (Value name) (written word) rest)
 
 abbrev pub number_in : Name → ℕ → List ℕ → Parsed ℕ
 number_in name most bs = written_in (numeral most) name bs
@@ -74,16 +72,15 @@ end_in bs =
     then (value_in End bs) (λ word rest.
     cond (bytes_eq word (codes "none")) (Ok (None, rest)) (timed (numeral 18446744073709551615 word) rest))
 
+-- what the first word writes, or that it writes nothing of the kind
+abbrev pub known_in : {X : Type 0} → (List ℕ → Option X) → TextFault → List ℕ → Parsed X
+known_in written fault bs = worth fault (written (first_word bs)) (after_word bs)
+
 abbrev pub side_in : List ℕ → Parsed Side
-side_in bs =
-    cond (bytes_eq (first_word bs) (codes "bid")) (Ok (Bid, after_word bs))
-    (cond (bytes_eq (first_word bs) (codes "offer")) (Ok (Offer, after_word bs)) (Err NoSide))
+side_in bs = known_in side_of NoSide bs
 
 abbrev pub type_in : List ℕ → Parsed OrderType
-type_in bs =
-    cond (bytes_eq (first_word bs) (codes "FaS")) (Ok (FaS, after_word bs))
-    (cond (bytes_eq (first_word bs) (codes "FaK")) (Ok (FaK, after_word bs))
-    (cond (bytes_eq (first_word bs) (codes "FaKI")) (Ok (FaKI, after_word bs)) (Err NoType)))
+type_in bs = known_in type_of NoType bs
 
 -- no word is left
 abbrev pub none : List ℕ → Bool
@@ -143,16 +140,14 @@ call_in Cancel bs = made (cancel_in bs) (λ c. cancel c)
 call_in Tick bs = made (tick_in bs) (λ time. tick time)
 call_in Draw bs = made (ended_in bs) (λ _. draw)
 
-abbrev pub call_of : Option Verb → List ℕ → Result (Option Message) TextFault
-call_of (Some verb) bs = made (call_in verb bs) (λ m. Some m)
-call_of None bs = Err NoCall
-
 -- a line without a word, or whose first word begins with #
 abbrev pub remark : List ℕ → Bool
 remark bs = none bs || byte 0 (first_word bs) == 35
 
 abbrev pub line_in : List ℕ → Result (Option Message) TextFault
-line_in bs = cond (remark bs) (Ok None) (call_of (verb_of (first_word bs)) (after_word bs))
+line_in bs =
+    cond (remark bs) (Ok None)
+    (then (known_in verb_of NoCall bs) (λ verb bs. made (call_in verb bs) (λ m. Some m)))
 
 -- the same of code's answers
 abbrev pub heard : Result CallMessage TextFault → Result Message TextFault

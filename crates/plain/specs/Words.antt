@@ -2,6 +2,10 @@
 use Rattle.std.specs.Prelude.{ℕ, Bool, true, false, cond, not, ◌||◌, List, take, drop, Some, None, codes, Option, ◌==◌}
 use Rattle.std.specs.List.{prefix_len}
 use Rattle.std.specs.Str.{bytes_eq}
+use Rattle.market.specs.declared.order.Side.{Side}
+use Rattle.market.specs.declared.order.Side.TheVariants.{Bid, Offer}
+use Rattle.market.specs.declared.order.OrderType.{OrderType}
+use Rattle.market.specs.declared.order.OrderType.TheVariants.{FaS, FaK, FaKI}
 use Rattle.plain.specs.declared.fault.Name.{Name}
 use Rattle.plain.specs.declared.fault.Name.TheVariants.{Trader, Order, Price, Displayed, Reserve, End, Time, Reference}
 use Rattle.plain.specs.declared.word.Verb.{Verb}
@@ -36,6 +40,15 @@ name_of Reserve = codes "reserve"
 name_of End = codes "end"
 name_of Time = codes "time"
 name_of Reference = codes "reference"
+
+abbrev pub side_of : List ℕ → Option Side
+side_of w = cond (bytes_eq w (codes "bid")) (Some Bid) (cond (bytes_eq w (codes "offer")) (Some Offer) None)
+
+abbrev pub type_of : List ℕ → Option OrderType
+type_of w =
+    cond (bytes_eq w (codes "FaS")) (Some FaS)
+    (cond (bytes_eq w (codes "FaK")) (Some FaK)
+    (cond (bytes_eq w (codes "FaKI")) (Some FaKI) None))
 
 abbrev pub verb_of : List ℕ → Option Verb
 verb_of w =

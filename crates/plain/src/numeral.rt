@@ -1,6 +1,8 @@
 //! Numbers in words.
-ghost use Rattle.std.specs.Prelude.{◌≡◌, ℕ, ◌≤◌, List, Option, IfSome};
+ghost use Rattle.std.specs.Prelude.{◌≡◌, ◌≤◌, IfSome};
 ghost use Rattle.plain.specs.Numerals.{digit_of, numeral as numeral_of, signed_of};
+
+use crate::word::FromWord;
 
 fn digit(byte: u8) -> Option<u8>
     ensures { result ≡ digit_of byte }
@@ -12,6 +14,7 @@ fn digit(byte: u8) -> Option<u8>
 }
 
 /// The number that decimal digits write, if it is at most `most`.
+// By hand, since `parse` takes a `+` in front, and a word here is bytes.
 fn numeral(word: &[u8], most: u64) -> Option<u64>
     ensures value { result ≡ numeral_of most word.now }
     ensures bound { IfSome result (λ n. n ≤ most) }
@@ -29,20 +32,11 @@ fn numeral(word: &[u8], most: u64) -> Option<u64>
     Some(n as u64)
 }
 
-/// A number that a word can write.
-pub(crate) trait FromWord: Sized {
-    // The number that a word writes, if it writes one of this type.
-    ghost written: { List ℕ → Option Self };
-
-    fn from_word(word: &[u8]) -> Option<Self>
-        ensures { result ≡ written word.now };
-}
-
 impl FromWord for u8 {
     ghost written = { numeral_of 255 };
 
     fn from_word(word: &[u8]) -> Option<u8> {
-        Some(numeral(word, 255)? as u8)
+        Some(numeral(word, u64::from(u8::MAX))? as u8)
     }
 }
 
@@ -50,7 +44,7 @@ impl FromWord for u32 {
     ghost written = { numeral_of 4294967295 };
 
     fn from_word(word: &[u8]) -> Option<u32> {
-        Some(numeral(word, 4_294_967_295)? as u32)
+        Some(numeral(word, u64::from(u32::MAX))? as u32)
     }
 }
 

@@ -1,12 +1,10 @@
 //! Calls from lines of words.
 ghost use Rattle.std.specs.Prelude.{◌≡◌};
-ghost use Rattle.plain.specs.Grammar.{both, followed, shown, value_in, written_in, end_in, side_in, type_in, ended_in, reference_in, entry_in, change_in, cancel_in, tick_in, call_in, line_in, heard, heard_line};
+ghost use Rattle.plain.specs.Grammar.{both, followed, shown, value_in, written_in, end_in, known_in, ended_in, reference_in, entry_in, change_in, cancel_in, tick_in, call_in, line_in, heard, heard_line};
 
 use crate::fault::{Name, TextFault};
-use crate::numeral::FromWord;
-use crate::word::{Verb, call_named, cut};
+use crate::word::{FromWord, Verb, cut};
 use market::call::{OrderCancel, OrderChange, OrderEntry};
-use market::order::{OrderType, Side};
 use wire_in::message::CallMessage;
 
 /// The word behind the name of a field, and what follows it.
@@ -20,15 +18,22 @@ fn value<'a>(text: &'a [u8], name: Name) -> Result<(&'a [u8], &'a [u8]), TextFau
     Ok(cut(rest))
 }
 
+/// What the first word writes, and what follows it.
+fn known<'a, T: FromWord>(text: &'a [u8], fault: TextFault) -> Result<(T, &'a [u8]), TextFault>
+    ensures { followed result ≡ known_in T.written fault text.now }
+{
+    let (word, rest) = cut(text);
+    let value = T::from_word(word).ok_or(fault)?;
+    Ok((value, rest))
+}
+
 /// The number behind the name of a field, and what follows it.
 fn number<'a, T: FromWord>(text: &'a [u8], name: Name) -> Result<(T, &'a [u8]), TextFault>
     ensures { followed result ≡ written_in T.written name text.now }
 {
     let (word, rest) = value(text, name)?;
-    match T::from_word(word) {
-        Some(n) => Ok((n, rest)),
-        None => Err(TextFault::Value(name)),
-    }
+    let n = T::from_word(word).ok_or(TextFault::Value(name))?;
+    Ok((n, rest))
 }
 
 /// `none`, or a time above 0.
@@ -42,34 +47,6 @@ fn end_time<'a>(text: &'a [u8]) -> Result<(Option<u64>, &'a [u8]), TextFault>
     match u64::from_word(word) {
         None | Some(0) => Err(TextFault::Value(Name::End)),
         time => Ok((time, rest)),
-    }
-}
-
-fn side<'a>(text: &'a [u8]) -> Result<(Side, &'a [u8]), TextFault>
-    ensures { followed result ≡ side_in text.now }
-{
-    let (word, rest) = cut(text);
-    if word == b"bid".as_slice() {
-        Ok((Side::Bid, rest))
-    } else if word == b"offer".as_slice() {
-        Ok((Side::Offer, rest))
-    } else {
-        Err(TextFault::Side)
-    }
-}
-
-fn order_type<'a>(text: &'a [u8]) -> Result<(OrderType, &'a [u8]), TextFault>
-    ensures { followed result ≡ type_in text.now }
-{
-    let (word, rest) = cut(text);
-    if word == b"FaS".as_slice() {
-        Ok((OrderType::FaS, rest))
-    } else if word == b"FaK".as_slice() {
-        Ok((OrderType::FaK, rest))
-    } else if word == b"FaKI".as_slice() {
-        Ok((OrderType::FaKI, rest))
-    } else {
-        Err(TextFault::OrderType)
     }
 }
 
@@ -105,8 +82,8 @@ fn entry<'a>(text: &'a [u8]) -> Result<CallMessage<'a>, TextFault>
     ensures { heard result ≡ entry_in text.now }
 {
     let (trader, text) = number(text, Name::Trader)?;
-    let (side, text) = side(text)?;
-    let (kind, text) = order_type(text)?;
+    let (side, text) = known(text, TextFault::Side)?;
+    let (kind, text) = known(text, TextFault::OrderType)?;
     let (price, text) = number(text, Name::Price)?;
     let (displayed, text) = number(text, Name::Displayed)?;
     let (reserve, text) = number(text, Name::Reserve)?;
@@ -182,12 +159,10 @@ fn call<'a>(verb: Verb, text: &'a [u8]) -> Result<CallMessage<'a>, TextFault>
 pub fn parse<'a>(line: &'a [u8]) -> Result<Option<CallMessage<'a>>, TextFault>
     ensures { heard_line result ≡ line_in line.now }
 {
-    let (word, text) = cut(line);
+    let (word, _) = cut(line);
     if word.is_empty() || word[0] == b'#' {
         return Ok(None);
     }
-    match call_named(word) {
-        Some(verb) => Ok(Some(call(verb, text)?)),
-        None => Err(TextFault::Call),
-    }
+    let (verb, text) = known(line, TextFault::Call)?;
+    call(verb, text).map(Some)
 }
