@@ -63,7 +63,7 @@ pub fn standing_of(board: &Board, order: &Order) -> Standing
         Phase::Fbs if is_last(&board.session, order.side, order.trader) => Standing::Last(
             order.stamp,
         ),
-        Phase::Fbs => by_carrier(board.privileges.of(Seat::of(order)), order),
+        Phase::Fbs => by_carrier(board.privileges.of(Seat::from(order)), order),
     }
 }
 
