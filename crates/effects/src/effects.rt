@@ -100,8 +100,8 @@ fn takes_stamp(change: &OrderChange, order: &Order) -> bool
     change.price != order.price || order.displayed < change.displayed
 }
 
-// A test and not an option of the stamp, as the rules tell it: the order, whether it stays prior, and the counter all go by it.
 /// The new stamp, if one is taken.
+// A test and not an option of the stamp, as the rules tell it: the order, whether it stays prior, and the counter all go by it.
 fn stamp_of(anew: bool, stamp: u64, old: u64) -> u64
     ensures { result ≡ (if anew then stamp else old) }
 {
