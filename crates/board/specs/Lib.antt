@@ -1,3 +1,4 @@
+pub mod Carriers
 pub mod EndTimes
 pub mod Entitlements
 pub mod Memory

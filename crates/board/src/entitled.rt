@@ -21,10 +21,7 @@ fn is_aggressive(session: &Session, order: &Order) -> bool
     ensures { result ≡ aggressively session.now.aggressor session.now order.now }
 {
     let at_price = order.price == session.price;
-    match session.aggressor {
-        Some(owner) => at_price && order.trader == owner,
-        None => at_price,
-    }
+    at_price && session.aggressor.is_none_or(|owner| order.trader == owner)
 }
 
 impl Entitlement {

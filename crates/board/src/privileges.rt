@@ -3,6 +3,7 @@ ghost use Rattle.std.specs.Prelude.{◌≡◌};
 ghost use Rattle.market.specs.declared.state.Privilege.{Privilege};
 ghost use Rattle.rules.specs.Board.{lookup, empty};
 ghost use Rattle.rules.specs.Privileges.{taken, freed, lost, adjust, granted};
+ghost use Rattle.board.specs.Carriers.{is_by};
 
 use crate::earning::earned_by;
 use crate::seat::Seat;
@@ -18,6 +19,13 @@ pub struct Privileges {
 }
 
 // These are no methods of `Privilege`, which is a type of `market`: their contracts have the words of the rules.
+
+/// Whether the order with that number carries the privilege.
+pub(crate) fn is_carried_by(privilege: &Privilege, number: u32) -> bool
+    ensures { result ≡ is_by number privilege.now.carrier }
+{
+    matches!(privilege.carrier, Carrier::Order(carrier) if carrier == number)
+}
 
 /// The privilege, carried by this order from now on if no order has carried it.
 fn taken_by(privilege: Privilege, number: u32) -> Privilege
@@ -36,18 +44,16 @@ fn taken_by(privilege: Privilege, number: u32) -> Privilege
 fn freed_from(privilege: Privilege, number: u32) -> Privilege
     ensures { result ≡ freed number privilege }
 {
-    match privilege.carrier {
-        Carrier::Order(carrier) if carrier == number => {
-            let carrier = match privilege.priority {
-                Priority::First => Carrier::Free,
-                Priority::Second => Carrier::Gone,
-            };
-            Privilege {
-                carrier,
-                ..privilege
-            }
-        }
-        _ => privilege,
+    if !is_carried_by(&privilege, number) {
+        return privilege;
+    }
+    let carrier = match privilege.priority {
+        Priority::First => Carrier::Free,
+        Priority::Second => Carrier::Gone,
+    };
+    Privilege {
+        carrier,
+        ..privilege
     }
 }
 
@@ -55,12 +61,12 @@ fn freed_from(privilege: Privilege, number: u32) -> Privilege
 fn lost_by(privilege: Privilege, number: u32) -> Privilege
     ensures { result ≡ lost number privilege }
 {
-    match privilege.carrier {
-        Carrier::Order(carrier) if carrier == number => Privilege {
-            carrier: Carrier::Gone,
-            ..privilege
-        },
-        _ => privilege,
+    if !is_carried_by(&privilege, number) {
+        return privilege;
+    }
+    Privilege {
+        carrier: Carrier::Gone,
+        ..privilege
     }
 }
 

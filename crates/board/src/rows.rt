@@ -22,6 +22,7 @@ pub fn put<T: Copy + Default, const N: usize>(
             }
         }
         None => {
+            // A row that is not there needs no letting go.
             let _ = rows.pop_at(at);
         }
     }

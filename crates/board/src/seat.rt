@@ -13,18 +13,19 @@ pub struct Seat {
     pub side: Side,
 }
 
-impl Seat {
-    /// Where the order's trader stands with it.
-    pub fn of(order: &Order) -> Seat
-        ensures trader { result.trader ≡ order.now.trader }
-        ensures side { result.side ≡ order.now.side }
-    {
+/// Where the order's trader stands with it.
+impl From<&Order> for Seat {
+    ghost from_gives = { λ order seat. (seat.trader ≡ order.now.trader) × (seat.side ≡ order.now.side) };
+
+    fn from(order: &Order) -> Seat {
         Seat {
             trader: order.trader,
             side: order.side,
         }
     }
+}
 
+impl Seat {
     /// The same trader on the other side.
     pub fn across(self) -> Seat
         ensures trader { result.trader ≡ self.trader }

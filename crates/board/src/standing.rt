@@ -5,12 +5,13 @@ ghost use Rattle.rules.specs.Standings.{plain, privileged, favoured, last_on, st
 ghost use Rattle.board.specs.EndTimes.{end_time};
 
 use crate::board::Board;
+use crate::privileges::is_carried_by;
 use crate::seat::Seat;
 use market::order::{Order, Side};
 use market::price::SidePrice;
 use market::rank::{EndTime, Rank};
 use market::standing::Standing;
-use market::state::{Carrier, Phase, Priority, Privilege, Session};
+use market::state::{Phase, Priority, Privilege, Session};
 use std::cmp::Reverse;
 
 /// By its stamp alone.
@@ -34,11 +35,8 @@ fn by_privilege(privilege: &Privilege) -> Standing
 fn by_carrier(held: Option<Privilege>, order: &Order) -> Standing
     ensures { result ≡ favoured held order.now }
 {
-    let Some(privilege) = held else {
-        return plain(order);
-    };
-    match privilege.carrier {
-        Carrier::Order(number) if number == order.number => by_privilege(&privilege),
+    match held {
+        Some(privilege) if is_carried_by(&privilege, order.number) => by_privilege(&privilege),
         _ => plain(order),
     }
 }
@@ -63,7 +61,7 @@ pub fn standing_of(board: &Board, order: &Order) -> Standing
         Phase::Fbs if is_last(&board.session, order.side, order.trader) => Standing::Last(
             order.stamp,
         ),
-        Phase::Fbs => by_carrier(board.privileges.of(Seat::of(order)), order),
+        Phase::Fbs => by_carrier(board.privileges.of(Seat::from(order)), order),
     }
 }
 

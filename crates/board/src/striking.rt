@@ -18,6 +18,6 @@ impl Board {
         let row = position(&self.orders, order.number);
         put(&mut self.orders, row, None);
         put(reserves, row, None);
-        self.privileges.free(Seat::of(order), order.number);
+        self.privileges.free(Seat::from(order), order.number);
     }
 }

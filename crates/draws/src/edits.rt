@@ -8,13 +8,11 @@ ghost use Rattle.rules.specs.Draws.{started};
 use market::order::{Order, Side};
 
 /// The number of an order's first fill in the session, after one more fill.
+// A flag and a number, and no option of the number: the rules' `first_fill` and `executed` take both.
 fn first_fill(session: bool, fill: u64, first: Option<u64>) -> Option<u64>
     ensures { result ≡ first_fill session fill first }
 {
-    match first {
-        None if session => Some(fill),
-        first => first,
-    }
+    first.or(session.then_some(fill))
 }
 
 /// The order after a fill with this number took this size of what it displayed.

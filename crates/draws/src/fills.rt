@@ -93,7 +93,7 @@ fn note_completion(
     ensures { completions.new ≡ completions_after (meant remainder) session order.now.trader order.now.side completion completions.old }
 {
     match remainder {
-        Remainder::Leaves if session => complete(completions, Seat::of(order), completion),
+        Remainder::Leaves if session => complete(completions, Seat::from(order), completion),
         _ => {}
     }
 }
@@ -103,7 +103,7 @@ fn end_privilege(privileges: &mut Privileges, remainder: Remainder, order: &Orde
     ensures { privileges.new.slots ≡ privileges_after (meant remainder) order.now privileges.old.slots }
 {
     match remainder {
-        Remainder::Leaves => privileges.lose(Seat::of(order), order.number),
+        Remainder::Leaves => privileges.lose(Seat::from(order), order.number),
         Remainder::Stays | Remainder::Restocks(_) => {}
     }
 }

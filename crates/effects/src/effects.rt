@@ -23,6 +23,14 @@ fn await_draws(clock: &mut Clock, wished: u64)
     clock.quiet = false;
 }
 
+/// After an accepted call that is no tick, the tape must be drawn to quiet by the book's own time.
+fn await_draws_now(clock: &mut Clock)
+    ensures { clock.new ≡ awaiting clock.old.time clock.old }
+{
+    let time = clock.time;
+    await_draws(clock, time);
+}
+
 /// In the FBS Period an entry at the session's price or worse takes what its trader has on the side, if that is free.
 fn claim(board: &mut Board, wanted: &OrderEntry, order: &Order)
     ensures { board.new ≡ claimed_board board.old wanted.now order.now }
@@ -41,7 +49,7 @@ fn forfeit(board: &mut Board, order: &Order, price: i32)
     ensures { board.new ≡ forfeited_board board.old order.now price }
 {
     if in_fbs(board.phase) && is_better(order.side, price, board.session.price) {
-        board.privileges.lose(Seat::of(order), order.number);
+        board.privileges.lose(Seat::from(order), order.number);
     }
 }
 
@@ -81,8 +89,7 @@ pub fn enter(board: &mut Board, reserves: &mut ArrayVec<u32, 128>, wanted: &Orde
         incoming: Some(order.number),
         ..board.counters
     };
-    let time = board.clock.time;
-    await_draws(&mut board.clock, time);
+    await_draws_now(&mut board.clock);
     order
 }
 
@@ -93,8 +100,8 @@ fn takes_stamp(change: &OrderChange, order: &Order) -> bool
     change.price != order.price || order.displayed < change.displayed
 }
 
-// A test and not an option of the stamp, as the rules tell it: the order, whether it stays prior, and the counter all go by it.
 /// The new stamp, if one is taken.
+// A test and not an option of the stamp, as the rules tell it: the order, whether it stays prior, and the counter all go by it.
 fn stamp_of(anew: bool, stamp: u64, old: u64) -> u64
     ensures { result ≡ (if anew then stamp else old) }
 {
@@ -137,8 +144,7 @@ pub fn change(
         incoming: Some(order.number),
         ..board.counters
     };
-    let time = board.clock.time;
-    await_draws(&mut board.clock, time);
+    await_draws_now(&mut board.clock);
     after
 }
 
@@ -147,8 +153,7 @@ pub fn cancel(board: &mut Board, reserves: &mut ArrayVec<u32, 128>, order: &Orde
     ensures { Cancels order.now board.old board.new reserves.old.items reserves.new.items }
 {
     board.strike(reserves, order);
-    let time = board.clock.time;
-    await_draws(&mut board.clock, time);
+    await_draws_now(&mut board.clock);
 }
 
 /// The book is to reach this time.

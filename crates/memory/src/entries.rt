@@ -8,7 +8,7 @@ use market::rank::{BidRank, EndTime, OfferRank};
 use queues::listed::Listed;
 
 /// The entries of one order in the lines of bids, of offers and of end times.
-#[derive(Clone, Copy)]
+#[derive(Clone, Copy, Default)]
 pub struct Entries {
     pub bid: Option<BidRank>,
     pub offer: Option<OfferRank>,
@@ -31,20 +31,13 @@ impl Entries {
     pub fn none() -> Entries
         ensures { result ≡ no_entries }
     {
-        Entries {
-            bid: None,
-            offer: None,
-            end: None,
-        }
+        Entries::default()
     }
 
     /// What is left of an order has.
-    pub fn after(board: &Board, left: &Option<Order>) -> Entries
-        ensures { result ≡ afterwards board.now left.now }
+    pub fn after(board: &Board, left: Option<Order>) -> Entries
+        ensures { result ≡ afterwards board.now left }
     {
-        match left {
-            Some(order) => Entries::of(board, order),
-            None => Entries::none(),
-        }
+        left.map_or(Entries::none(), |order| Entries::of(board, &order))
     }
 }

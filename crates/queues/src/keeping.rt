@@ -18,6 +18,7 @@ fn put_entry<T: Entry, L: Line<T>>(line: &mut L, new: Option<T>)
     ensures room { L.Line.room line.new ≡ L.Line.room line.old }
 {
     if let Some(entry) = new {
+        // An entry that the line refuses is not in it: `added` tells that, too.
         let _ = line.put(entry);
     }
 }
@@ -28,6 +29,7 @@ fn take_entry<T: Entry, L: Line<T>>(line: &mut L, old: Option<T>)
     ensures room { L.Line.room line.new ≡ L.Line.room line.old }
 {
     if let Some(entry) = old {
+        // An entry that the line does not hold is not in it afterwards: `taken` tells that, too.
         let _ = line.take(entry);
     }
 }
@@ -59,8 +61,7 @@ pub fn refill<T: Listed, L: Line<T>>(line: &mut L, board: &Board)
     ensures { Refills T.Entry.ahead T.Listed.mine T.Listed.listing L.Line line.old line.new board.now }
 {
     line.clear();
-    let orders = board.orders.as_slice();
-    for order in orders {
+    for order in board.orders.iter() {
         put_entry(line, T::of(board, order));
     }
 }

@@ -24,6 +24,6 @@ pub returns : goal.returns
 unfolding cancelled_board struck_board
 returns c =
     record {
-      board = λ k m a. same-board refl c.await_draws.ensures refl refl refl refl ∙ ap waiting (c.board.view_is ∙ c.strike.ensures.board k m a);
+      board = λ k m a. same-board refl c.await_draws_now.ensures refl refl refl refl ∙ ap waiting (c.board.view_is ∙ c.strike.ensures.board k m a);
       reserves = λ k m h a e. ap (λ (x : Board). each (reserve_of h) x.orders) c.board.view_is ∙ c.strike.ensures.reserves k m h a e;
     }

@@ -44,7 +44,7 @@ returns c =
           let stamp : c.stamp_of.result ≡ cond (takes_stamp d o) (s + 1) s =
           c.stamp_of.ensures ∙ ap (λ (t : ℕ). cond c.takes_stamp-anew.result t s) more ∙ ap (λ (q : Bool). cond q (s + 1) s) c.takes_stamp-anew.ensures in
           let writes = one_more x.counters.writes 4294967295 c.saturating_add-2.ensures (omega (arith, bounds.writes, ap (λ (y : Counters). y.writes) same)) in
-          same-board refl c.await_draws.ensures (same-counts refl stamp writes refl) refl refl refl ∙
+          same-board refl c.await_draws_now.ensures (same-counts refl stamp writes refl) refl refl refl ∙
           changed-board b x d o written (placed k m a ∙ ap (λ (p : Order). replace n (Some p) os) is) forfeited;
       reserves = λ k m h a e.
           ap (each (reserve_of (write n d.reserve h))) (ap (λ (y : Board). y.orders) forfeited ∙ placed k m a) ∙

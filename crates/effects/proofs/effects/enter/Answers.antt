@@ -28,7 +28,7 @@ returns c =
           let number = one_more x.counters.number 4294967295 c.saturating_add.ensures (omega (arith, bounds.number, ap (λ (y : Counters). y.number) same)) in
           let stamp = one_more x.counters.stamp 18446744073709551615 c.saturating_add-2.ensures (omega (arith, bounds.stamp, ap (λ (y : Counters). y.stamp) same)) in
           let writes = one_more x.counters.writes 4294967295 c.saturating_add-3.ensures (omega (arith, bounds.writes, ap (λ (y : Counters). y.writes) same)) in
-          same-board (grown l) c.await_draws.ensures (same-counts number stamp writes refl) refl refl refl ∙
+          same-board (grown l) c.await_draws_now.ensures (same-counts number stamp writes refl) refl refl refl ∙
           entered-board b x w o c.new_order-order.ensures claimed;
       reserves = λ k h l a e.
           let n = b.counters.number in

@@ -9,4 +9,4 @@ invariant-loop-order g l =
     let fill = filled g.T.Entry.ahead (g.L.Line.room l.initial.line) in
     let e = g.T.Listed.listing l.board in
     (g.L.Line.room l.line ≡ g.L.Line.room l.initial.line) ×
-    (fill (each e (drop l.order-index l.orders)) (g.L.Line.entries l.line) ≡ fill (each e l.orders) [])
+    (fill (each e (drop l.order-index l.order-items)) (g.L.Line.entries l.line) ≡ fill (each e l.order-items) [])

@@ -21,8 +21,8 @@ returns c =
     let o = c.args.order.now in
     let ps = c.self.inside.privileges.slots in
     let carried : c.free.new.self.slots ≡ adjust (freed n) o.trader o.side ps =
-    c.free.ensures ∙ ap (λ t. adjust (freed n) t c.of.result.side ps) c.of.ensures.trader ∙
-    ap (λ s. adjust (freed n) o.trader s ps) c.of.ensures.side in
+    c.free.ensures ∙ ap (λ t. adjust (freed n) t c.from.result.side ps) c.from.ensures.0 ∙
+    ap (λ s. adjust (freed n) o.trader s ps) c.from.ensures.1 in
     rw (← c.self.view_is) (record {
       board = λ k m a. same-board (orders ∙ put-position n None k m os a) refl refl refl refl carried;
       reserves = λ k m h a e.
