@@ -26,9 +26,8 @@ fn compose(rt: &HostRuntime, number: u64, line: &[u8]) -> io::Result<()> {
 
 fn main(rt: HostRuntime) -> io::Result<()> {
     let lines = BufReader::new(rt.alloc(), rt.stdin())?.split(rt.alloc(), b'\n');
-    for (i, line) in lines.enumerate() {
-        let line = line?;
-        compose(&rt, (i as u64).wrapping_add(1), line.as_slice())?;
+    for (number, line) in (1..=u64::MAX).zip(lines) {
+        compose(&rt, number, line?.as_slice())?;
     }
     Ok(())
 }

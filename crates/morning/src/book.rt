@@ -77,6 +77,7 @@ impl<O: Line<BidRank> + Drop, H: Line<BidRank> + Drop, E: Line<EndTime> + Drop> 
         let number = self.quotes.len() as u32 + 1;
         let rank = rank_of(quote, number);
         self.sorted.put(rank)?;
+        // The other lines have the same room and hold no more: they refuse nothing that the first takes.
         let _ = self.heaped.put(rank);
         if let Some(end) = quote.end {
             let _ = self.ends.put(EndTime { end, number });
@@ -109,6 +110,7 @@ impl<O: Line<BidRank> + Drop, H: Line<BidRank> + Drop, E: Line<EndTime> + Drop> 
         let quote = self.quote(number).ok_or(LineFault::NotHeld)?;
         let rank = rank_of(&quote, number);
         self.sorted.take(rank)?;
+        // What the first line holds, the others hold too.
         let _ = self.heaped.take(rank);
         if let Some(end) = quote.end {
             let _ = self.ends.take(EndTime { end, number });
@@ -132,11 +134,13 @@ impl<O: Line<BidRank> + Drop, H: Line<BidRank> + Drop, E: Line<EndTime> + Drop> 
         }
         self.time = time;
         println!(rt; "time {time}")?;
+        // Counted, since a loop has to be shown to end, and each round lets one end time go.
         for _ in 0..self.ends.count() {
             let Some(EndTime { end, number }) = self.ends.first().filter(|next| next.end <= time)
             else {
                 break;
             };
+            // An order with an end time in its line is in the others too.
             let _ = self.drop_order(number);
             println!(rt; "    order {number} ends at {end}")?;
         }
@@ -149,12 +153,10 @@ impl<O: Line<BidRank> + Drop, H: Line<BidRank> + Drop, E: Line<EndTime> + Drop> 
         println!(rt; "the queue, {count} in all:")?;
         let sorted = iter::successors(self.sorted.first(), |rank| self.sorted.next(*rank));
         let heaped = iter::successors(self.heaped.first(), |rank| self.heaped.next(*rank));
-        let mut shown = 0;
         for (place, (rank, other)) in (1..=count).zip(sorted.zip(heaped)) {
             self.show_one(rt, place, &rank, &other)?;
-            shown = place;
         }
-        if shown < count {
+        if self.heaped.count() < count {
             println!(rt; "    the lines differ")?;
         }
         Ok(())

@@ -12,6 +12,7 @@ fn main(rt: HostRuntime) -> io::Result<()> {
     let mut input = BufReader::new(rt.alloc(), rt.stdin())?;
     let mut held = Vec::new(rt.alloc());
     let mut at: u64 = 0;
+    // The language proves that every loop ends, and this one ends where the input does: so it is counted.
     for _ in 0..u64::MAX {
         hold(&mut input, &mut held)?;
         if held.is_empty() {

@@ -12,8 +12,8 @@ use wire_out::output::Output;
 #[derive(Clone, Copy)]
 pub struct InWords<T>(pub T);
 
-// By the number, since a reply brings no more of its refusal.
 /// What a refusal's number means.
+// By the number, since a reply brings no more of its refusal.
 fn meaning(number: u8) -> &'static str {
     match number {
         1 => "the tenor or a period is out of range",

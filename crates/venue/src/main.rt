@@ -19,6 +19,7 @@ use wire_out::output::Output;
 use wire_out::write::write;
 
 /// The book's answer to one call.
+// By `play`, since the laws of the answers are of what it hands out.
 fn answer_to<L: BookLines>(book: &mut Book<L>, call: Call) -> Answer {
     let mut room = [Ok(Accepted::Done)];
     let _ = book.play(&[call], &mut room);
@@ -37,6 +38,7 @@ fn tell(rt: &HostRuntime, answer: Answer) -> io::Result<()> {
 fn serve<L: BookLines>(rt: &HostRuntime, book: &mut Book<L>) -> io::Result<()> {
     let mut input = BufReader::new(rt.alloc(), rt.stdin())?;
     let mut held = Vec::new(rt.alloc());
+    // The language proves that every loop ends, and this one ends where the input does: so it is counted.
     for _ in 0..u64::MAX {
         hold(&mut input, &mut held)?;
         if held.is_empty() {
