@@ -39,6 +39,6 @@ pub returns-in-Some-Session-Timed : goal.returns-in-Some-Session-Timed
 returns-in-Some-Session-Timed g c k S sound w =
     let begins-not = not-begun g.L.Bids.Line g.L.Offers.Line g.L.Ends.Line c.args.memory.now k S in
     elim c.in-Some-Session-Timed-1.branch [
-      in-Session+in-Timed-1 u ↦ absurd (search (begins-not Timed, begins-not Rolling, begins-not Fbs, rules))
-    | in-PhaseEnd+in-Open-1 u ↦ absurd (search (not-ended g.L.Bids.Line g.L.Offers.Line g.L.Ends.Line c.args.memory.now k S, rules))
+      | in-Session+in-Timed-1 u ↦ absurd (search (begins-not Timed, begins-not Rolling, begins-not Fbs, rules))
+      | in-PhaseEnd+in-Open-1 u ↦ absurd (search (not-ended g.L.Bids.Line g.L.Offers.Line g.L.Ends.Line c.args.memory.now k S, rules))
     ]
