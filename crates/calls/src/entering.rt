@@ -17,6 +17,7 @@ pub fn enter<L: BookLines>(memory: &mut Memory<L>, wanted: &OrderEntry) -> Resul
     ensures obeys { Obeys L.Bids.Line L.Offers.Line L.Ends.Line memory.old memory.new (Entry wanted.now) (entry_answer result) }
     ensures kept { is_ok result ≡ false → memory.new ≡ memory.old }
 {
+    // `false`: whether a line is full is asked afterwards, of the lines themselves.
     check_entry(&memory.board, &memory.settings, wanted, false)?;
     check_side_line(memory, wanted.side)?;
     check_end_line(memory, wanted.end)?;

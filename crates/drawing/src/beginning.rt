@@ -2,7 +2,8 @@
 ghost use Rattle.rules.specs.Draws.{begins};
 ghost use Rattle.drawing.specs.Does.{Does};
 
-use draws::{edits, session};
+use draws::session;
+use draws::start::Start;
 use market::order::Order;
 use market::record::Record;
 use memory::entries::Entries;
@@ -15,7 +16,7 @@ pub fn begin<L: BookLines>(memory: &mut Memory<L>, trigger: &Order, passive: &Or
 {
     let old = Entries::of(&memory.board, trigger);
     session::begin_session(&mut memory.board, trigger, passive);
-    let started = edits::started(trigger.number, passive.side, passive.price, trigger);
+    let started = Start::new(trigger, passive).started(trigger);
     let new = Entries::of(&memory.board, &started);
     memory.relist(old, new);
     Record::Session {

@@ -29,9 +29,7 @@ pub fn draw<L: BookLines>(memory: &mut Memory<L>) -> Record
         (Some(Due::Expiry { order, time }), _) => expire(memory, &order, time),
         (None, _) => rest(memory),
         // These do not occur: a session begins in Open alone, and Open does not end by itself.
-        (Some(Due::Session { .. }), Phase::Timed) => rest(memory),
-        (Some(Due::Session { .. }), Phase::Rolling) => rest(memory),
-        (Some(Due::Session { .. }), Phase::Fbs) => rest(memory),
-        (Some(Due::PhaseEnd { .. }), Phase::Open) => rest(memory),
+        (Some(Due::Session { .. }), Phase::Timed | Phase::Rolling | Phase::Fbs)
+        | (Some(Due::PhaseEnd { .. }), Phase::Open) => rest(memory),
     }
 }

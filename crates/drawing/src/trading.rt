@@ -17,8 +17,8 @@ pub fn trade<L: BookLines>(memory: &mut Memory<L>, bid: &Order, offer: &Order) -
     let bid_before = Entries::of(&memory.board, bid);
     let offer_before = Entries::of(&memory.board, offer);
     let filled = fill(&mut memory.board, &mut memory.reserves, bid, offer);
-    let bid_after = Entries::after(&memory.board, &filled.bid);
-    let offer_after = Entries::after(&memory.board, &filled.offer);
+    let bid_after = Entries::after(&memory.board, filled.bid);
+    let offer_after = Entries::after(&memory.board, filled.offer);
     memory.relist(bid_before, bid_after);
     memory.relist(offer_before, offer_after);
     Record::Fill {

@@ -8,3 +8,4 @@ mod remainder;
 pub mod removals;
 mod rows;
 pub mod session;
+pub mod start;

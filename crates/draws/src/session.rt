@@ -3,19 +3,19 @@ ghost use Rattle.std.specs.Prelude.{◌≡◌};
 ghost use Rattle.rules.specs.Base.{each};
 ghost use Rattle.rules.specs.Draws.{started, begun_board};
 
-use crate::edits;
+use crate::start::Start;
 use arrayvec::ArrayVec;
 use board::board::Board;
 use board::seats::Seats;
-use market::order::{Order, Side};
+use market::order::Order;
 use market::state::{Phase, Session};
 
 /// Every order starts the session.
-fn start_orders(orders: &mut ArrayVec<Order, 128>, trigger: u32, passive: Side, price: i32)
-    ensures { orders.new.items ≡ each (started trigger passive price) orders.old.items }
+fn start_orders(orders: &mut ArrayVec<Order, 128>, start: Start)
+    ensures { orders.new.items ≡ each (started start.trigger start.passive start.price) orders.old.items }
 {
     for order in orders.iter_mut() {
-        *order = edits::started(trigger, passive, price, order);
+        *order = start.started(order);
     }
 }
 
@@ -23,12 +23,7 @@ fn start_orders(orders: &mut ArrayVec<Order, 128>, trigger: u32, passive: Side, 
 pub fn begin_session(board: &mut Board, trigger: &Order, passive: &Order)
     ensures { board.new ≡ begun_board board.old trigger.now passive.now }
 {
-    start_orders(
-        &mut board.orders,
-        trigger.number,
-        passive.side,
-        passive.price,
-    );
+    start_orders(&mut board.orders, Start::new(trigger, passive));
     board.phase = Phase::Timed;
     board.session = Session {
         price: passive.price,

@@ -2,6 +2,7 @@ use Rattle.std.proofs.Common.{rules}
 use Rattle.market.specs.declared.state.Phase.TheVariants.{Timed, Rolling, Fbs}
 use Rattle.rules.specs.Draws.{begins, fills, removes, turns, expires, rests}
 use Rattle.drawing.proofs.Drawn.{drawn, not-begun, not-ended}
+use Rattle.drawing.proofs.machine.draw.Goals.{in-Session+in-Timed-1, in-PhaseEnd+in-Open-1}
 use Rattle.drawing.proofs.machine.draw.Goals as goal
 
 pub returns-in-Some-Session-Open : goal.returns-in-Some-Session-Open
@@ -36,16 +37,8 @@ returns-in-None-default g c =
 
 pub returns-in-Some-Session-Timed : goal.returns-in-Some-Session-Timed
 returns-in-Some-Session-Timed g c k S sound w =
-    absurd (search (not-begun g.L.Bids.Line g.L.Offers.Line g.L.Ends.Line c.args.memory.now k S Timed, rules))
-
-pub returns-in-Some-Session-Rolling : goal.returns-in-Some-Session-Rolling
-returns-in-Some-Session-Rolling g c k S sound w =
-    absurd (search (not-begun g.L.Bids.Line g.L.Offers.Line g.L.Ends.Line c.args.memory.now k S Rolling, rules))
-
-pub returns-in-Some-Session-Fbs : goal.returns-in-Some-Session-Fbs
-returns-in-Some-Session-Fbs g c k S sound w =
-    absurd (search (not-begun g.L.Bids.Line g.L.Offers.Line g.L.Ends.Line c.args.memory.now k S Fbs, rules))
-
-pub returns-in-Some-PhaseEnd-Open : goal.returns-in-Some-PhaseEnd-Open
-returns-in-Some-PhaseEnd-Open g c k S sound w =
-    absurd (search (not-ended g.L.Bids.Line g.L.Offers.Line g.L.Ends.Line c.args.memory.now k S, rules))
+    let begins-not = not-begun g.L.Bids.Line g.L.Offers.Line g.L.Ends.Line c.args.memory.now k S in
+    elim c.in-Some-Session-Timed-1.branch [
+      | in-Session+in-Timed-1 u ↦ absurd (search (begins-not Timed, begins-not Rolling, begins-not Fbs, rules))
+      | in-PhaseEnd+in-Open-1 u ↦ absurd (search (not-ended g.L.Bids.Line g.L.Offers.Line g.L.Ends.Line c.args.memory.now k S, rules))
+    ]

@@ -1,9 +1,7 @@
-use Rattle.std.proofs.Common.{◌≡◌, ◌<◌, length, get_or, set, ap, ◌∙◌, arith, w32, to_z, of_z}
+use Rattle.std.proofs.Common.{◌≡◌, ◌<◌, length, get_or, set, ap, ◌∙◌, arith}
 use Rattle.std.proofs.lemmas.List.{get_or_default}
 use Rattle.std.proofs.lemmas.List.Edits.{map_over_more}
-use Rattle.std.proofs.lemmas.Int.{to_z-of_z}
 use Rattle.arrayvec.proofs.ArrayVecLemmas.{items-with_items}
-use Rattle.rules.specs.Base.{each}
 use Rattle.rules.specs.Draws.{started}
 use Rattle.draws.proofs.Lists.{mapped}
 use Rattle.draws.proofs.session.start_orders.Goals as goal
@@ -13,7 +11,7 @@ loop-order-preserved c =
     let i = c.loop-order.order-index in
     let xs = c.args.orders.now.items in
     let ys = c.loop-order.order-items in
-    let f = started c.args.trigger c.args.passive (to_z w32 (of_z w32 c.args.price)) in
+    let f = started c.args.start.trigger c.args.start.passive c.args.start.price in
     let len : length ys ≡ length xs = c.loop-order.auto.order-items ∙ ap length c.deref_mut-order-items.ensures.value in
     let inside : i < length xs = omega (arith, len, c.loop-order-test.true) in
     let within : i < length ys = omega (arith, c.loop-order-test.true) in
@@ -23,8 +21,6 @@ pub returns : goal.returns
 returns c =
     let xs = c.args.orders.now.items in
     let ys = c.loop-order.order-items in
-    let p = to_z-of_z w32 c.args.price c.ranges.price in
     let before = ap length c.deref_mut-order-items.ensures.value in
     let all = c.loop-order.invariant ∙ mapped _ xs c.loop-order.order-index (omega (arith, before, c.loop-order-test.false)) in
-    items-with_items c.args.orders.now ys (c.loop-order.auto.order-items ∙ before) ∙ all ∙
-    ap (λ q. each (started c.args.trigger c.args.passive q) xs) p
+    items-with_items c.args.orders.now ys (c.loop-order.auto.order-items ∙ before) ∙ all

@@ -5,4 +5,4 @@ use Rattle.draws.proofs.session.start_orders.Given as goal
 abbrev pub invariant-loop-order : goal.invariant-loop-order
 invariant-loop-order l =
     l.order-items ≡
-    map (started l.trigger l.passive l.price) (take l.order-index l.fn.orders.items) ++ drop l.order-index l.fn.orders.items
+    map (started l.start.trigger l.start.passive l.start.price) (take l.order-index l.fn.orders.items) ++ drop l.order-index l.fn.orders.items
