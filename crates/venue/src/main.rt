@@ -12,7 +12,6 @@ use market::rank::{BidRank, EndTime, OfferRank};
 use market::settings::Settings;
 use memory::lines::BookLines;
 use ordered_row::ordered_row::OrderedRow;
-use std::io;
 use std::io::{BufReader, Write};
 use wire_in::read::read;
 use wire_out::output::Output;
@@ -26,16 +25,16 @@ fn answer_to<L: BookLines>(book: &mut Book<L>, call: Call) -> Answer {
     room[0]
 }
 
-/// Tells an answer, in one write. Every message has room.
-fn tell(rt: &HostRuntime, answer: Answer) -> io::Result<()> {
+/// Tells an answer, in one write. The longest message has 36 bytes; if one had no room, the venue would end and not go on without it.
+fn tell(rt: &HostRuntime, answer: Answer) -> anyhow::Result<()> {
     let mut out = [0u8; 64];
     match write(&Output::from(answer), &mut out) {
-        Ok(size) => rt.stdout().write_all(&out[0..size]),
-        Err(_) => Ok(()),
+        Ok(size) => Ok(rt.stdout().write_all(&out[0..size])?),
+        Err(_) => Err(anyhow!("an answer has no room")),
     }
 }
 
-fn serve<L: BookLines>(rt: &HostRuntime, book: &mut Book<L>) -> io::Result<()> {
+fn serve<L: BookLines>(rt: &HostRuntime, book: &mut Book<L>) -> anyhow::Result<()> {
     let mut input = BufReader::new(rt.alloc(), rt.stdin())?;
     let mut held = Vec::new(rt.alloc());
     // The language proves that every loop ends, and this one ends where the input does: so it is counted.
@@ -73,7 +72,7 @@ fn run(rt: &HostRuntime) -> anyhow::Result<()> {
         OrderedRow::new(&mut offers),
         HeapRow::new(&mut ends),
     );
-    Ok(serve(rt, &mut book)?)
+    serve(rt, &mut book)
 }
 
 fn main(rt: HostRuntime) -> anyhow::Result<()> {
