@@ -1,6 +1,5 @@
 -- What is due, part by part, is what the rules decide on. Assumes nothing.
 use Rattle.std.proofs.Common.{◌≡◌, ℕ, Bool, true, false, ◌&&◌, Some, None, Option, sym, refl, ap, ◌∙◌, subst}
-use Rattle.std.specs.Option.{MatchOption}
 use Rattle.line.specs.declared.lines.Line.{Ghosts}
 use Rattle.market.specs.Ranks.{BidRank, OfferRank, bid_ahead, offer_ahead, end_ahead}
 use Rattle.market.specs.declared.order.Side.{Side}
@@ -10,7 +9,7 @@ use Rattle.market.specs.declared.state.Phase.{Phase}
 use Rattle.market.specs.declared.state.Phase.TheVariants.{Open, Timed, Rolling, Fbs}
 use Rattle.market.specs.declared.record.Cause.{Cause}
 use Rattle.market.specs.declared.rank.EndTime.{EndTime}
-use Rattle.rules.specs.Base.{or_else, or_next, only_if, find, first}
+use Rattle.rules.specs.Base.{or_else, only_if, find, first}
 use Rattle.rules.specs.Board.{Opening, Board, State, other, on, meet, is_open}
 use Rattle.rules.specs.Standings.{ahead}
 use Rattle.rules.specs.Entitlement.{first_entitled}
@@ -22,8 +21,6 @@ use Rattle.draws.specs.Removals.{with_cause, removal_due}
 use Rattle.invariants.specs.Sound.{Sound}
 use Rattle.memory.specs.declared.memory.Memory.{Memory}
 use Rattle.memory.specs.Shown.{Shows}
-use Rattle.drawing.specs.declared.due.Due.{Due}
-use Rattle.drawing.specs.Due.{meant_of}
 
 -- ---- a session
 
@@ -79,24 +76,15 @@ gone b r e = ap removal e ∙ go (find (goes b) b.orders)
     go None = refl
     go (Some o) = refl
 
--- what is due, or else what comes next
-pub next-due : {P : Type 0} (d r : Option Due) (p q : Option Step) → meant_of d ≡ p → (P → meant_of r ≡ q) → MatchOption d P (λ x. r ≡ Some x) →
-    meant_of r ≡ or_next p q
-next-due None r p q e next f = next f ∙ ap (λ (v : Option Step). or_next v q) e
-next-due (Some d) r p q e next f = ap meant_of f ∙ ap (λ (v : Option Step). or_next v q) e
-
--- the first of the four that is there
-pub first-due : (k : Opening) (b : Board) (d : Option Step) → d ≡ or_next (or_next (or_next (opening b) (pairing b)) (removing b)) (coming k b) →
-    or_else d rests ≡ decided k b
+-- the first of them that is there
+pub first-due : (k : Opening) (b : Board) (p q r s : Option Step) → p ≡ opening b → q ≡ pairing b → r ≡ removing b → s ≡ coming k b →
+    or_else p (or_else q (or_else r (or_else s rests))) ≡ decided k b
 unfolding decided
-first-due k b d e = ap (λ (v : Option Step). or_else v rests) e ∙ go (opening b) (pairing b) (removing b)
-  where
-    go : (p q r : Option Step) → or_else (or_next (or_next (or_next p q) r) (coming k b)) rests ≡
-        or_else p (or_else q (or_else r (or_else (coming k b) rests)))
-    go (Some p) q r = refl
-    go None (Some q) r = refl
-    go None None (Some r) = refl
-    go None None None = refl
+first-due k b p q r s pe qe re se =
+    ap (λ (v : Option Step). or_else v (or_else q (or_else r (or_else s rests)))) pe ∙
+    ap (λ (v : Option Step). or_else (opening b) (or_else v (or_else r (or_else s rests)))) qe ∙
+    ap (λ (v : Option Step). or_else (opening b) (or_else (pairing b) (or_else v (or_else s rests)))) re ∙
+    ap (λ (v : Option Step). or_else (opening b) (or_else (pairing b) (or_else (removing b) (or_else v rests)))) se
 
 -- ---- in memory
 
