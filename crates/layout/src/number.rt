@@ -9,9 +9,12 @@ fn array_at<const N: usize>(bytes: &[u8], at: usize) -> [u8; N]
     ensures { big result ≡ field at N bytes.now }
 {
     let rest = bytes.get(at..).unwrap_or(&[]);
-    let part = &rest[..rest.len().min(N)];
+    // Where all are there, which is the rule, they are read at once.
+    if let Some((whole, _)) = rest.split_first_chunk() {
+        return *whole;
+    }
     let mut array = [0; N];
-    put(&mut array, N - part.len(), part);
+    put(&mut array, N - rest.len(), rest);
     array
 }
 

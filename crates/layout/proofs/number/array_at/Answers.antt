@@ -1,7 +1,7 @@
-use Rattle.std.proofs.Common.{◌≡◌, ℕ, ◌≤◌, min, List, [], length, take, drop, Some, None, Option, unwrap_or, sym, refl, ap, ◌∙◌, arith, length-take}
+use Rattle.std.proofs.Common.{◌≡◌, ℕ, ◌<◌, List, [], length, take, drop, Some, None, Option, unwrap_or, sym, refl, ap, ◌∙◌, arith}
 use Rattle.std.specs.Borrow.{Bor}
 use Rattle.std.specs.Slice.{IsGetRangeResult}
-use Rattle.std.proofs.lemmas.List.{drop_all, take_rest, take_min}
+use Rattle.std.proofs.lemmas.List.{drop_all, take_all, take_rest}
 use Rattle.layout.specs.Numbers.{big}
 use Rattle.layout.proofs.Arrays.{padded}
 use Rattle.layout.proofs.number.array_at.Goals as goal
@@ -13,11 +13,8 @@ behind bs at None none e h = e ∙ sym (drop_all at bs (omega arith))
 
 pub returns : goal.returns
 returns g c =
-    let n = c.min.result in
     let rest = c.unwrap_or-rest.result.now in
     let is : rest ≡ drop c.args.at c.args.bytes.now =
     ap (λ (r : Bor (List ℕ)). r.now) c.unwrap_or-rest.ensures ∙ behind _ _ c.get.result _ refl c.get.ensures.lookup in
-    let few : length (take n rest) ≤ g.row.N = omega (arith, length-take n rest) in
-    let count : n ≡ min g.row.N (length rest) = omega arith in
-    let front : take n rest ≡ take g.row.N rest = ap (λ (i : ℕ). take i rest) count ∙ take_min g.row.N rest in
-    ap big c.put.ensures ∙ padded g.row.N (take n rest) few ∙ ap big (front ∙ ap (take g.row.N) is)
+    let few : length rest < g.row.N = c.in_default.ensures.cases in
+    ap big c.put.ensures ∙ padded g.row.N rest (omega arith) ∙ ap big (sym (take_all g.row.N rest (omega arith)) ∙ ap (take g.row.N) is)
