@@ -159,10 +159,10 @@ fn call<'a>(verb: Verb, text: &'a [u8]) -> Result<CallMessage<'a>, TextFault>
 pub fn parse<'a>(line: &'a [u8]) -> Result<Option<CallMessage<'a>>, TextFault>
     ensures { heard_line result ≡ line_in line.now }
 {
-    let (word, _) = cut(line);
+    let (word, text) = cut(line);
     if word.is_empty() || word[0] == b'#' {
         return Ok(None);
     }
-    let (verb, text) = known(line, TextFault::Call)?;
+    let verb = Verb::from_word(word).ok_or(TextFault::Call)?;
     call(verb, text).map(Some)
 }
