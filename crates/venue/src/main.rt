@@ -12,6 +12,7 @@ use market::rank::{BidRank, EndTime, OfferRank};
 use market::settings::Settings;
 use memory::lines::BookLines;
 use ordered_row::ordered_row::OrderedRow;
+use std::io;
 use std::io::{BufReader, Write};
 use wire_in::read::read;
 use wire_out::output::Output;
@@ -26,11 +27,11 @@ fn answer_to<L: BookLines>(book: &mut Book<L>, call: Call) -> Answer {
 }
 
 /// Tells an answer, in one write. The longest message has 36 bytes; if one had no room, the venue would end and not go on without it.
-fn tell(rt: &HostRuntime, answer: Answer) -> anyhow::Result<()> {
+fn tell(rt: &HostRuntime, answer: Answer) -> io::Result<()> {
     let mut out = [0u8; 64];
     match write(&Output::from(answer), &mut out) {
-        Ok(size) => Ok(rt.stdout().write_all(&out[0..size])?),
-        Err(_) => Err(anyhow!("an answer has no room")),
+        Ok(size) => rt.stdout().write_all(&out[..size]),
+        Err(_) => Err(io::Error::other("an answer has no room")),
     }
 }
 
@@ -43,9 +44,15 @@ fn serve<L: BookLines>(rt: &HostRuntime, book: &mut Book<L>) -> anyhow::Result<(
         if held.is_empty() {
             break;
         }
-        match read(held.as_slice()).0 {
-            Ok(message) => tell(rt, answer_to(book, Call::from(message)))?,
-            Err(refusal) => return tell(rt, Err(refusal)),
+        let call = read(held.as_slice()).0.map(Call::from);
+        let answer = match call {
+            Ok(call) => answer_to(book, call),
+            Err(refusal) => Err(refusal),
+        };
+        // `tell` is called in one place, which costs each answer less than two.
+        tell(rt, answer)?;
+        if call.is_err() {
+            break;
         }
     }
     Ok(())
