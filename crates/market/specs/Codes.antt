@@ -1,5 +1,5 @@
--- The bytes that stand for sides, types and causes in a message. Assumes nothing.
-use Rattle.std.specs.Prelude.{ℕ, cond, not, Ok, Err, Result, ◌==◌, nat_lt}
+-- The bytes that stand for sides, types and causes in a message, and the words that they print as. Assumes nothing.
+use Rattle.std.specs.Prelude.{ℕ, List, codes, cond, not, Ok, Err, Result, ◌==◌, nat_lt}
 use Rattle.market.specs.Tenors.{within}
 use Rattle.market.specs.declared.order.Side.{Side}
 use Rattle.market.specs.declared.order.Side.TheVariants.{Bid, Offer}
@@ -42,3 +42,19 @@ type_in b = cond (nat_lt 2 b) (Err NoType) (Ok (type_of b))
 -- a removal for a cause that there is none is of no kind that there is
 abbrev pub cause_in : ℕ → Result Cause MessageFault
 cause_in b = cond (not (within 1 3 b)) (Err Kind) (Ok (cause_of b))
+
+-- ---- in words
+
+abbrev pub side_word : Side → List ℕ
+side_word Bid = codes "bid"
+side_word Offer = codes "offer"
+
+abbrev pub type_word : OrderType → List ℕ
+type_word FaS = codes "FaS"
+type_word FaK = codes "FaK"
+type_word FaKI = codes "FaKI"
+
+abbrev pub cause_word : Cause → List ℕ
+cause_word WasFaKI = codes "FaKI"
+cause_word WasFaK = codes "FaK"
+cause_word End = codes "end"

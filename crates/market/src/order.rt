@@ -1,6 +1,6 @@
 //! Orders.
-ghost use Rattle.std.specs.Prelude.{◌≡◌};
-ghost use Rattle.market.specs.Codes.{side_byte, side_in, type_byte, type_in};
+ghost use Rattle.std.specs.Prelude.{◌≡◌, Some};
+ghost use Rattle.market.specs.Codes.{side_byte, side_in, side_word, type_byte, type_in, type_word};
 
 use crate::refusal::MessageFault;
 use std::fmt;
@@ -52,6 +52,8 @@ impl TryFrom<u8> for Side {
 }
 
 impl fmt::Display for Side {
+    ghost output = { λ side. Some (side_word side) };
+
     fn fmt<W: fmt::Write>(&self, f: &mut fmt::Formatter<W>) -> fmt::Result {
         f.write_str(match self {
             Side::Bid => "bid",
@@ -89,6 +91,8 @@ impl TryFrom<u8> for OrderType {
 }
 
 impl fmt::Display for OrderType {
+    ghost output = { λ kind. Some (type_word kind) };
+
     fn fmt<W: fmt::Write>(&self, f: &mut fmt::Formatter<W>) -> fmt::Result {
         f.write_str(match self {
             OrderType::FaS => "FaS",

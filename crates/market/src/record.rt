@@ -1,6 +1,6 @@
 //! What the tape tells everybody: one record a draw, with the time that the book has reached.
-ghost use Rattle.std.specs.Prelude.{◌≡◌};
-ghost use Rattle.market.specs.Codes.{cause_byte, cause_in};
+ghost use Rattle.std.specs.Prelude.{◌≡◌, Some};
+ghost use Rattle.market.specs.Codes.{cause_byte, cause_in, cause_word};
 
 use crate::refusal::MessageFault;
 use std::fmt;
@@ -46,6 +46,8 @@ impl TryFrom<u8> for Cause {
 }
 
 impl fmt::Display for Cause {
+    ghost output = { λ cause. Some (cause_word cause) };
+
     fn fmt<W: fmt::Write>(&self, f: &mut fmt::Formatter<W>) -> fmt::Result {
         f.write_str(match self {
             Cause::FaKI => "FaKI",
