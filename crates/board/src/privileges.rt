@@ -13,7 +13,7 @@ use market::state::{Carrier, Completion, Priority, Privilege};
 use std::array;
 
 /// What every trader has on each side.
-#[derive(Drop)]
+#[derive(Clone, Copy)]
 pub struct Privileges {
     pub slots: Seats<Privilege>,
 }

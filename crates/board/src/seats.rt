@@ -6,7 +6,7 @@ use crate::seat::Seat;
 use std::marker::Model;
 
 /// What each trader from 0 to 128 has on each side, if anything.
-#[derive(Drop)]
+#[derive(Clone, Copy)]
 pub struct Seats<T: Copy> {
     places: [Option<T>; 258],
 }
