@@ -1,5 +1,5 @@
 //! Tables with a place for each trader on each side.
-ghost use Rattle.std.specs.Prelude.{◌≡◌};
+ghost use Rattle.std.specs.Prelude.{◌≡◌, length};
 ghost use Rattle.rules.specs.Board.{lookup, place, empty};
 
 use crate::seat::Seat;
@@ -39,6 +39,16 @@ impl<T: Copy> Seats<T> {
         ensures { result ≡ places }
     {
         Seats { places }
+    }
+
+    /// How many seats there are: 258, two for each trader from 0 to 128.
+    pub fn len(&self) -> usize
+        ensures value { result ≡ length self.now }
+        ensures seats { length self.now ≡ 258 }
+    {
+        // Lent as a slice: an array's length is a constant, and the check would not look at the places for it.
+        let places: &[Option<T>] = &self.places;
+        places.len()
     }
 
     /// What the trader has on the side.
