@@ -6,6 +6,6 @@ pub mod fills;
 pub mod phases;
 mod remainder;
 pub mod removals;
-mod rows;
+pub mod rows;
 pub mod session;
 pub mod start;
