@@ -49,4 +49,4 @@ returns-clause-value c =
     let fits : SFits w32 order.price = search rules in
     let end = end_is order.end c.in_ok-end.end c.in_ok-end.ensures in
     same order c.args.reference.now c.args.buf.now c.if-reference-gt16.false _ _ _ _
-    c.into.ensures c.into-2.ensures (to_z-of_z w32 order.price fits) end.1 end.0 c.write_message.ensures.value
+    (search rules) (search rules) (to_z-of_z w32 order.price fits) end.1 end.0 c.write_message.ensures.value
