@@ -24,6 +24,7 @@ impl<'a> TryFrom<&'a [u8]> for Message<'a> {
 }
 
 /// The first message of `input` or its refusal, and beside it how many bytes were taken.
+#[tactic(auto, using(crate::proofs::Answer::reads))]
 pub fn read_message<'a>(input: &'a [u8]) -> (Result<Message<'a>, Refusal>, usize)
     ensures value { (meant result.0, result.1) ≡ telling input.now }
     ensures within { result.1 ≤ length input.now }
