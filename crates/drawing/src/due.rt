@@ -112,7 +112,8 @@ pub fn next_step<L: BookLines>(memory: &Memory<L>) -> Option<Due>
     ensures { Whenever L.Bids.Line L.Offers.Line L.Ends.Line memory.now (λ k S. or_else (meant_of result) rests ≡ decided k S.board) }
 {
     let meets = prices_meet(&memory.bids, &memory.offers);
-    // By early returns, the last one too: a chain of `or_else` copies what is due at each link, and took twice the time in a quiet draw.
+    // By early returns, the last one too: a chain of `or_else`, or the last answer handed on as it is, copies what may be due even if
+    // nothing is.
     if let Some(due) = session_due(memory, meets) {
         return Some(due);
     }

@@ -49,7 +49,7 @@ fn serve<L: BookLines>(rt: &HostRuntime, book: &mut Book<L>) -> anyhow::Result<(
             Ok(call) => answer_to(book, call),
             Err(refusal) => Err(refusal),
         };
-        // `tell` is called in one place, which costs each answer less than two.
+        // `tell` is called in one place, so that the compiler builds it into the loop.
         tell(rt, answer)?;
         if call.is_err() {
             break;
